@@ -1,0 +1,5 @@
+pub mod Places
+pub mod Packing
+pub mod Unpacking
+pub mod Tests
+pub mod Answers

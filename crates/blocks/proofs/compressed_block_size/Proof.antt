@@ -1,0 +1,34 @@
+-- A refusal is passed on with length 0; else the length is the payload's, which is small.
+use mathlib.Core.Path.{_≡_, sym, _∙_, subst}
+use mathlib.Core.Bool.{Bool, true, false}
+use native.Mathlib.Omega.{arith}
+use borrow.Author.Tests.{not-true, not-false}
+use Rattle.blocks.specs.declared.refusal.Refusal.{Refusal}
+use Rattle.blocks.specs.Refusals.{accepted}
+use Rattle.blocks.proofs.Tests.{Sizable, size-exactly, size-fits, lanes-of}
+use Rattle.blocks.proofs.Answers.{refused, answered}
+use borrow.Author.Needs.{needs}
+use Rattle.blocks.proofs.compressed_block_size.Statement.{statement}
+use Rattle.blocks.proofs.compressed_block_size.Tie as tie
+
+yes-accepted : (c : tie.Else1) → accepted (c .before .before .size-refusal .result) ≡ true
+yes-accepted c = sym (c .before .is-accepted .ensures) ∙ not-false _ (c .if1 .left)
+
+able : (c : tie.Else1) → Sizable (c .before .before .before .args .lanes) (c .before .before .before .args .width)
+able c = size-exactly _ _ .0 (rw (c .before .before .size-refusal .ensures) at (yes-accepted c))
+
+returns : tie.Need-returns
+returns c =
+    refused (c .before .before .size-refusal .ensures) (sym (c .before .is-accepted .ensures) ∙ not-true _ (c .if1 .taken)) _
+
+mul-t6 : tie.Need-mul-t6
+mul-t6 c = omega (arith, lanes-of _ (able c .lanes))
+
+mul-t8 : tie.Need-mul-t8
+mul-t8 c = omega (arith, size-fits _ _ (able c .lanes) (able c .width))
+
+returns-2 : tie.Need-returns-2
+returns-2 c = answered (c .before .before .size-refusal .ensures) (yes-accepted c) _
+
+pub compressed-block-size-spec : {M : Type 1} → statement M
+compressed-block-size-spec = tie.close (tie.spec (search needs) (search needs) returns mul-t6 mul-t8 returns-2)

@@ -1,0 +1,52 @@
+-- A refusal is passed on with length 0 and nothing written; else `unpack` writes the values.
+use mathlib.Core.Path.{_≡_, sym, _∙_}
+use mathlib.Core.Bool.{true}
+use lib.ListN.{length}
+use native.Mathlib.Omega.{arith}
+use borrow.Author.Tests.{not-true, not-false}
+use Rattle.blocks.specs.Calls.{unpacked}
+use Rattle.blocks.specs.Refusals.{accepted}
+use Rattle.blocks.proofs.Tests.{Unpackable, unpack-exactly, size-fits, lanes-of}
+use Rattle.blocks.proofs.Answers.{refused, untouched, answered, overwritten}
+use borrow.Author.Needs.{needs}
+use Rattle.blocks.proofs.decompress.Statement.{statement}
+use Rattle.blocks.proofs.decompress.Tie as tie
+
+yes-accepted : (c : tie.Else1) → accepted (c .before .before .unpack-refusal .result) ≡ true
+yes-accepted c = sym (c .before .is-accepted .ensures) ∙ not-false _ (c .if1 .left)
+
+able : (c : tie.Else1) → Unpackable (c .before .before .before .before .before .args .lanes) (length (c .before .before .before .before .before .args .compressed .now)) (length (c .before .before .before .before .before .args .decompressed .now)) (c .before .before .before .before .before .args .width)
+able c = unpack-exactly _ _ _ _ .0 (rw (c .before .before .unpack-refusal .ensures) at (yes-accepted c))
+
+returns : tie.Need-returns
+returns c =
+    let k = c .before .before .unpack-refusal .ensures in
+    let h = sym (c .before .is-accepted .ensures) ∙ not-true _ (c .if1 .taken) in
+    let a = c .before .before .before .before .before .args in
+    (refused k h _, untouched k h (unpacked (a .lanes) (a .mode) (a .compressed .now) (a .width)) _)
+
+unpack-requires : tie.Need-unpack-requires
+unpack-requires c κs =
+    let p = able (c .before) in
+    let g = lanes-of _ (p .lanes) in
+    (g .0, g .1, p .width, p .whole, p .enough)
+
+mul-t7 : tie.Need-mul-t7
+mul-t7 c = omega (arith, lanes-of _ (able (c .before .before .before .before) .lanes))
+
+mul-t16 : tie.Need-mul-t16
+mul-t16 c =
+    let p = able (c .before .before .before .before) in
+    omega (arith, size-fits _ _ (p .lanes) (p .width))
+
+returns-2 : tie.Need-returns-2
+returns-2 c =
+    let e = c .before .before .before .before in
+    let k = e .before .before .unpack-refusal .ensures in
+    let a = e .before .before .before .before .before .args in (
+      answered k (yes-accepted e) _,
+      overwritten k (yes-accepted e) (unpacked (a .lanes) (a .mode) (a .compressed .now) (a .width)) (a .decompressed .now) (c .before .before .unpack .ensures),
+    )
+
+pub decompress-spec : {M : Type 1} → statement M
+decompress-spec = tie.close (tie.spec (search needs) (search needs) returns unpack-requires mul-t7 mul-t16 (search needs) returns-2)

@@ -1,0 +1,33 @@
+-- A refusal is passed on with width 0; else the width is the block's least.
+use mathlib.Core.Path.{_≡_, sym, _∙_}
+use mathlib.Core.Bool.{true}
+use lib.ListN.{length}
+use native.Mathlib.Omega.{arith}
+use borrow.Author.Tests.{not-true, not-false}
+use Rattle.blocks.specs.Refusals.{accepted}
+use Rattle.blocks.proofs.Tests.{Measurable, width-exactly, lanes-of}
+use Rattle.blocks.proofs.Answers.{unmeasured, measured}
+use borrow.Author.Needs.{needs}
+use Rattle.blocks.proofs.num_bits.Statement.{statement}
+use Rattle.blocks.proofs.num_bits.Tie as tie
+
+yes-accepted : (c : tie.Else1) → accepted (c .before .before .width-refusal .result) ≡ true
+yes-accepted c = sym (c .before .is-accepted .ensures) ∙ not-false _ (c .if1 .left)
+
+able : (c : tie.Else1) → Measurable (c .before .before .before .before .args .lanes) (length (c .before .before .before .before .args .decompressed .now))
+able c = width-exactly _ _ .0 (rw (c .before .before .width-refusal .ensures) at (yes-accepted c))
+
+returns : tie.Need-returns
+returns c =
+    unmeasured (c .before .before .width-refusal .ensures) (sym (c .before .is-accepted .ensures) ∙ not-true _ (c .if1 .taken)) _
+
+least-width-requires : tie.Need-least-width-requires
+least-width-requires c κs =
+    let g = lanes-of _ (able c .lanes) in
+    (g .0, g .1, omega (arith, able c .block))
+
+returns-2 : tie.Need-returns-2
+returns-2 c = measured (c .before .before .before .width-refusal .ensures) (yes-accepted (c .before)) (c .least-width .ensures)
+
+pub num-bits-spec : {M : Type 1} → statement M
+num-bits-spec = tie.close (tie.spec (search needs) (search needs) returns least-width-requires returns-2)

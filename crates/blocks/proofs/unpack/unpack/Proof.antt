@@ -1,0 +1,80 @@
+-- The loop's invariant: `held` is what is left before row `row`, the rows before it are stored, and `current` is the last of them.
+use mathlib.Core.Path.{_≡_}
+use Prim.Native.Nat.{ℕ, _+_, _*_, _-_, _≤_, _<_}
+use native.Mathlib.Nat.{mul-le-mul}
+use native.Mathlib.Omega.{arith}
+use Rattle.lanes.specs.Rows.{at, lastLane}
+use Rattle.lanes.specs.Sums.{before}
+use Rattle.lanes.specs.Layout.{payloadEntry}
+use Rattle.lanes.proofs.Products.{below-mul}
+use Rattle.modes.specs.Entries.{firstOf, values}
+use Rattle.modes.proofs.Steps.{values-row, last-start, last-next}
+use Rattle.blocks.specs.Calls.{unpacked}
+use Rattle.blocks.specs.kernel.Registers.{Held}
+use Rattle.blocks.proofs.Unpacking.{Unpacking, held-none, unpack-start, unpack-more, unpack-end}
+use borrow.Author.Needs.{needs}
+use Rattle.blocks.proofs.unpack.unpack.Statement.{statement}
+use Rattle.blocks.proofs.unpack.unpack.Tie as tie
+
+abbrev Inv-loop : tie.InvT-loop
+Inv-loop lanes mode bytes out₀ width current₀ held₀ row₀ out current held row =
+    (row ≤ 32)
+    × (lastLane lanes current ≡ before (firstOf mode) (values mode (payloadEntry lanes width bytes)) (row * lanes))
+    × Held lanes width bytes row held
+    × Unpacking lanes (values mode (payloadEntry lanes width bytes)) out₀ row out
+
+abbrev μ-loop : tie.MeasureT-loop
+μ-loop lanes mode bytes out₀ width current₀ held₀ row₀ out current held row = 32 - row
+
+loop-holds : tie.Need-loop-holds Inv-loop μ-loop
+loop-holds c =
+    let a = c .before .before .before .before .before in (
+      omega arith,
+      last-start (a .args .mode) (values (a .args .mode) (payloadEntry (a .args .lanes) (a .args .width) (a .args .bytes .now))) _ (a .pre .0) (a .pre .1) (c .before .set1 .ensures) (c .before .before .initial-value .ensures),
+      held-none _ _ _ (a .pre .1) (c .set12 .ensures),
+      unpack-start _ _ _,
+    )
+
+unpack-row-requires : tie.Need-unpack-row-requires Inv-loop μ-loop
+unpack-row-requires c κs =
+    let p = c .before .before .before .before .before .before .before .pre in
+    ((p .1, p .2, c .loop-test .taken, p .3), c .before .loop .inv .2)
+
+mul-store-row : tie.Need-mul-store-row Inv-loop μ-loop
+mul-store-row c =
+    let o = c .before .before .before .before .before .before in
+    omega (arith, mul-le-mul (o .loop .inv .0) (o .before .before .before .before .before .before .pre .1))
+
+store-row-requires : tie.Need-store-row-requires Inv-loop μ-loop
+store-row-requires c κs =
+    let i = c .before .before .before .before .before in
+    let o = i .before in
+    let a = o .before .before .before .before .before .before in
+    (a .pre .1, omega (arith, a .pre .4, o .loop .inv .3 .size, below-mul (a .args .lanes) (i .loop-test .taken)))
+
+loop-again : tie.Need-loop-again Inv-loop μ-loop
+loop-again c =
+    let i = c .before .before .before .before .before .before .before .before in
+    let o = i .before in
+    let a = o .before .before .before .before .before .before in
+    let e : ℕ → ℕ = payloadEntry (a .args .lanes) (a .args .width) (a .args .bytes .now) in
+    let next = c .before .before .before .before .before .before .before .unpack-row in
+    let v = c .before .before .before .before .process in
+    let row : (l : ℕ) → l < a .args .lanes → at (v .result) l ≡ values (a .args .mode) e (o .loop .row * a .args .lanes + l) =
+    values-row (a .args .mode) e (next .result .entries) (v .result) (o .loop .row * a .args .lanes) (a .args .lanes) _
+    (a .pre .1) (next .ensures .0) (o .loop .inv .1) (v .ensures) in (
+      omega (arith, i .loop-test .taken),
+      last-next (a .args .mode) (values (a .args .mode) e) (v .result) (o .loop .row) (a .args .lanes) (a .pre .0) row,
+      next .ensures .1,
+      unpack-more (o .loop .inv .3) row (c .before .before .store-row .ensures),
+    )
+
+same-length : tie.Need-same-length Inv-loop μ-loop
+same-length c = c .before .loop .inv .3 .size
+
+returns : tie.Need-returns Inv-loop μ-loop
+unfolding unpacked
+returns c = unpack-end (c .before .loop .inv .3) (omega arith) (c .before .before .before .before .before .before .before .pre .4)
+
+pub unpack-spec : {M : Type 1} → statement M
+unpack-spec = tie.close (tie.spec Inv-loop μ-loop (search needs) (search needs) (search needs) loop-holds unpack-row-requires (search needs) (search needs) mul-store-row store-row-requires (search needs) (search needs) loop-again same-length returns)

@@ -1,0 +1,60 @@
+-- Where the bits that are left reach, the row is their low bits; else the next word of each lane comes in above them.
+use mathlib.Core.Path.{_≡_}
+use Prim.Native.Nat.{ℕ, _+_, _*_, _-_, _≤_, _<_}
+use native.Mathlib.Nat.{mul-le-mul, le-of-lt}
+use native.Mathlib.Omega.{arith}
+use Rattle.lanes.specs.Rows.{at}
+use Rattle.blocks.proofs.Unpacking.{reach-row, reach-held, more-row, more-held, more-room}
+use borrow.Author.Needs.{needs}
+use Rattle.blocks.proofs.unpack.unpack_row.Statement.{statement}
+use Rattle.blocks.proofs.unpack.unpack_row.Tie as tie
+
+mul-start : tie.Need-mul-start
+mul-start c = omega (arith, mul-le-mul (le-of-lt (c .before .before .before .pre .0 .2)) (c .before .before .before .pre .0 .1))
+
+add-word : tie.Need-add-word
+add-word c = omega (arith, mul-le-mul (le-of-lt (c .before .before .before .pre .0 .2)) (c .before .before .before .pre .0 .1))
+
+mul-left : tie.Need-mul-left
+mul-left c = omega (arith, mul-le-mul (le-of-lt (c .before .before .before .pre .0 .2)) (c .before .before .before .pre .0 .1))
+
+returns : tie.Need-returns
+returns c =
+    let e = c .before .before .before in
+    let a = e .before .before .before in
+    let t = c .before .before .if1 .taken in (
+      reach-row (a .pre .1) (a .pre .0 .0) t (e .before .mask .ensures) (e .set1 .ensures) (c .before .op-and .ensures),
+      reach-held (a .pre .1) (a .pre .0 .0) t (c .right-shift-32 .ensures),
+    )
+
+cast-load-words : tie.Need-cast-load-words
+cast-load-words c =
+    let a = c .before .before .before .before in
+    omega (arith, more-room (a .args .lanes) (a .args .width) (a .args .row) (a .pre .0 .2) (c .if1 .left))
+
+mul-load-words : tie.Need-mul-load-words
+mul-load-words c =
+    let a = c .before .before .before .before in
+    omega (arith, more-room (a .args .lanes) (a .args .width) (a .args .row) (a .pre .0 .2) (c .if1 .left))
+
+load-words-requires : tie.Need-load-words-requires
+load-words-requires c κs =
+    let a = c .before .before .before .before in
+    omega (arith, more-room (a .args .lanes) (a .args .width) (a .args .row) (a .pre .0 .2) (c .if1 .left))
+
+returns-2 : tie.Need-returns-2
+returns-2 c =
+    let b = c .before .before .before .before .before in
+    let e = b .before in
+    let a = e .before .before .before in
+    let bytes : (i : ℕ) → at (a .args .bytes .now) i < 256 = λ i. e .before .before .shared-slice-known .given i .fits in
+    let y = c .before .before .before .before .load-words in
+    let s = c .before .before .before .left-shift-32 in
+    let j = c .before .before .op-or in (
+      more-row (a .pre .1) (a .pre .0 .0) (b .if1 .left) (a .pre .0 .1) bytes (y .result) (y .ensures)
+          (s .result) (j .result) (e .before .mask .ensures) (e .set1 .ensures) (s .ensures) (j .ensures) (c .before .op-and2 .ensures),
+      more-held (a .pre .1) (a .pre .0 .0) (b .if1 .left) (a .pre .0 .1) bytes (y .result) (y .ensures) (c .right-shift-322 .ensures),
+    )
+
+pub unpack-row-spec : {M : Type 1} → statement M
+unpack-row-spec = tie.close (tie.spec (search needs) (search needs) mul-start add-word mul-left (search needs) (search needs) (search needs) returns cast-load-words mul-load-words load-words-requires (search needs) (search needs) (search needs) (search needs) (search needs) returns-2)

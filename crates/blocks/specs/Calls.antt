@@ -1,0 +1,92 @@
+-- "Block calls" of document 01: which refusal each call gives, what it answers, and what it leaves in lent memory.
+use mathlib.Core.Bool.{Bool, not, _||_, cond}
+use mathlib.Core.List.{List, _++_}
+use Prim.Native.Nat.{ℕ, _*_}
+use lib.Dec.{ltb, eqb}
+use lib.ListN.{length, drop}
+use Rattle.lanes.specs.Rows.{at}
+use Rattle.lanes.specs.Layout.{blockSize, payloadSize, table, packed, payloadEntry}
+use Rattle.lanes.specs.Width.{fits, leastWidth}
+use Rattle.modes.specs.declared.Mode.{Mode}
+use Rattle.modes.specs.Entries.{entries, values}
+use Rattle.blocks.specs.declared.Answer.{Answer}
+use Rattle.blocks.specs.declared.Width.{Width}
+use Rattle.blocks.specs.declared.refusal.Refusal.{Refusal}
+use Rattle.blocks.specs.declared.refusal.Refusal.the-variants.{Accepted, BadLanes, BadWidth, BadBlock, NoRoom, CutShort, TooWide}
+use Rattle.blocks.specs.Refusals.{accepted, refuse}
+
+-- "L is the number of lanes: 1, 4 or 8."
+unfoldable pub isLanes : ℕ → Bool
+isLanes L = eqb L 1 || eqb L 4 || eqb L 8
+
+-- "Each returns its number, length 0"
+abbrev pub answer : Refusal → ℕ → Answer
+answer k length = record { refusal = k; length = cond (accepted k) length 0 }
+
+-- "Memory past those is unchanged": new at the front, and the rest as before
+abbrev pub over : List ℕ → List ℕ → List ℕ
+over new before = new ++ drop (length new) before
+
+-- ".. and leaves lent memory unchanged."
+abbrev pub written : Refusal → List ℕ → List ℕ → List ℕ
+written k new before = cond (accepted k) (over new before) before
+
+-- "Payload size: 1, 2."
+abbrev pub sizeRefusal : ℕ → ℕ → Refusal
+sizeRefusal L n =
+    refuse (not (isLanes L)) BadLanes
+    (refuse (ltb 32 n) BadWidth
+    Accepted)
+
+abbrev pub sizeAnswer : ℕ → ℕ → Answer
+sizeAnswer L n = answer (sizeRefusal L n) (payloadSize L n)
+
+-- "Pack: 1, 2, 3, 4, 6", for the values vs and room for as many bytes
+abbrev pub packRefusal : ℕ → Mode → List ℕ → ℕ → ℕ → Refusal
+packRefusal L m vs room n =
+    refuse (not (isLanes L)) BadLanes
+    (refuse (ltb 32 n) BadWidth
+    (refuse (not (eqb (length vs) (blockSize L))) BadBlock
+    (refuse (ltb room (payloadSize L n)) NoRoom
+    (refuse (not (fits (entries m (at vs)) (blockSize L) n)) TooWide
+    Accepted))))
+
+abbrev pub packAnswer : ℕ → Mode → List ℕ → ℕ → ℕ → Answer
+packAnswer L m vs room n = answer (packRefusal L m vs room n) (payloadSize L n)
+
+abbrev pub packOutput : ℕ → Mode → List ℕ → List ℕ → ℕ → List ℕ
+packOutput L m vs before n = written (packRefusal L m vs (length before) n) (packed L n (entries m (at vs))) before
+
+-- "Unpack: 1, 2, 4, 5", for as many bytes and room for as many values
+abbrev pub unpackRefusal : ℕ → ℕ → ℕ → ℕ → Refusal
+unpackRefusal L size room n =
+    refuse (not (isLanes L)) BadLanes
+    (refuse (ltb 32 n) BadWidth
+    (refuse (ltb room (blockSize L)) NoRoom
+    (refuse (ltb size (payloadSize L n)) CutShort
+    Accepted)))
+
+abbrev pub unpackAnswer : ℕ → ℕ → ℕ → ℕ → Answer
+unpackAnswer L size room n = answer (unpackRefusal L size room n) (payloadSize L n)
+
+-- the values of the payload that the bytes bs start with
+unfoldable pub unpacked : ℕ → Mode → List ℕ → ℕ → List ℕ
+unpacked L m bs n = table (values m (payloadEntry L n bs)) (blockSize L)
+
+abbrev pub unpackOutput : ℕ → Mode → List ℕ → List ℕ → ℕ → List ℕ
+unpackOutput L m bs before n = written (unpackRefusal L (length bs) (length before) n) (unpacked L m bs n) before
+
+-- "Width: 1, 3."
+abbrev pub widthRefusal : ℕ → ℕ → Refusal
+widthRefusal L count =
+    refuse (not (isLanes L)) BadLanes
+    (refuse (not (eqb count (blockSize L))) BadBlock
+    Accepted)
+
+-- the least width of the block vs, or the refusal and "width 0"
+abbrev pub widthAnswer : ℕ → Mode → List ℕ → Width
+widthAnswer L m vs =
+    record {
+      refusal = widthRefusal L (length vs);
+      width = cond (accepted (widthRefusal L (length vs))) (leastWidth (entries m (at vs)) (blockSize L)) 0;
+    }

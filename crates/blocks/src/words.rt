@@ -1,0 +1,58 @@
+// Rows of words in a payload: "Word w of lane l starts at byte 4(wL + l), lowest byte first" (the Rust's pointers to `DataType`).
+ghost use mathlib.Core.Path.{_≡_};
+ghost use Prim.Native.Nat.{ℕ, _+_, _*_, _≤_, _<_};
+ghost use lib.ListN.{length};
+ghost use Rattle.lanes.specs.Rows.{at};
+ghost use Rattle.lanes.specs.Words.{wordAt};
+ghost use Rattle.blocks.specs.kernel.Places.{withWord, WordsStored};
+
+fn wide(x: u8) -> u32
+    ensures { λ r. ⌜ r ≡ x ⌝ }
+    ensures { λ r. ⌜ r < 256 ⌝ }
+{
+    x as u32
+}
+
+// The word that starts at byte `at`.
+fn load_word(bytes: &[u8], at: usize) -> u32
+    requires { ⌜ at + 4 ≤ length (now bytes) ⌝ }
+    ensures { λ r. ⌜ r ≡ wordAt (now (bytes .entry)) at ⌝ }
+{
+    wide(bytes[at])
+        + wide(bytes[at + 1]) * 256
+        + wide(bytes[at + 2]) * 65536
+        + wide(bytes[at + 3]) * 16777216
+}
+
+// The word v from byte `at` on.
+fn store_word(out: &mut [u8], at: usize, v: u32)
+    requires { ⌜ at + 4 ≤ length (now out) ⌝ }
+    ensures { λ r. ⌜ now (out .exit) ≡ withWord (now (out .entry)) at v ⌝ }
+{
+    out[at] = (v % 256) as u8;
+    out[at + 1] = (v / 256 % 256) as u8;
+    out[at + 2] = (v / 65536 % 256) as u8;
+    out[at + 3] = (v / 16777216 % 256) as u8;
+}
+
+// The row of the words from word `base` on, one for each lane in use.
+pub(crate) fn load_words(bytes: &[u8], base: usize, lanes: usize) -> [u32; 8]
+    requires { ⌜ (lanes ≤ 8) × (4 * (base + lanes) ≤ length (now bytes)) ⌝ }
+    ensures { λ r. ⌜ ((l : ℕ) → l < lanes → at r l ≡ wordAt (now (bytes .entry)) (4 * (base + l))) ⌝ }
+{
+    let mut row = [0u32; 8];
+    for l in 0..lanes {
+        row[l] = load_word(bytes, 4 * (base + l));
+    }
+    row
+}
+
+// The row as the words from word `base` on.
+pub(crate) fn store_words(out: &mut [u8], base: usize, lanes: usize, row: [u32; 8])
+    requires { ⌜ (lanes ≤ 8) × (4 * (base + lanes) ≤ length (now out)) ⌝ }
+    ensures { λ r. ⌜ WordsStored base lanes row (now (out .entry)) (now (out .exit)) ⌝ }
+{
+    for l in 0..lanes {
+        store_word(&mut out[..], 4 * (base + l), row[l]);
+    }
+}

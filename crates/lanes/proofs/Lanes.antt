@@ -1,0 +1,70 @@
+-- Laws of a lane: its numbers, from the side of the entries and from the side of the bytes.
+use mathlib.Core.Path.{_≡_, refl, sym, _∙_, ap}
+use mathlib.Core.List.{List}
+use Prim.Native.Nat.{ℕ, zero, suc, _+_, _*_, _-_, _/_, _%_, _^_, _≤_, _<_}
+use native.Mathlib.Nat.{mod-eq-of-lt, add-zero, add-assoc}
+use native.Mathlib.Omega.{arith}
+use lib.Arith.{digits-div, digits-mod}
+use Rattle.lanes.specs.Rows.{at}
+use Rattle.lanes.specs.Layout.{bit, number, entryBits, byteBits, payloadByte, payloadEntry}
+use Rattle.lanes.specs.Words.{wordAt}
+use Rattle.lanes.proofs.Strings.{Bits, bit-lt, number-split, number-of}
+
+pub entry-bits : (L n : ℕ) (en : ℕ → ℕ) (l : ℕ) → Bits (entryBits L n en l)
+unfolding entryBits
+entry-bits L n en l p = bit-lt _ _
+
+pub byte-bits : (L : ℕ) (bs : List ℕ) (l : ℕ) → Bits (byteBits L bs l)
+unfolding byteBits
+byte-bits L bs l p = bit-lt _ _
+
+-- row r of a lane is its entry
+pub row-number : (L n : ℕ) (en : ℕ → ℕ) (l r : ℕ) → en (r * L + l) < 2 ^ n → number (entryBits L n en l) (r * n) n ≡ en (r * L + l)
+unfolding entryBits
+row-number L n en l r fits =
+    number-of (entryBits L n en l) (en (r * L + l)) (r * n) n (λ j h. rw (digits-div r h, digits-mod r h)) ∙ mod-eq-of-lt fits
+
+-- byte b of word w of a lane is its byte
+pub byte-number : (L : ℕ) (bs : List ℕ) (l w b : ℕ) → b < 4 → at bs (4 * (w * L + l) + b) < 256
+    → number (byteBits L bs l) (32 * w + 8 * b) 8 ≡ at bs (4 * (w * L + l) + b)
+unfolding byteBits
+byte-number L bs l w b lt fits =
+    number-of (byteBits L bs l) (at bs (4 * (w * L + l) + b)) (32 * w + 8 * b) 8 here ∙ mod-eq-of-lt fits
+  where
+    here : (j : ℕ) → j < 8 → byteBits L bs l (32 * w + 8 * b + j) ≡ bit (at bs (4 * (w * L + l) + b)) j
+    here j h =
+        let p : ℕ = 32 * w + 8 * b + j in
+        let e : p / 32 ≡ w = omega arith in
+        let f : p % 32 / 8 ≡ b = omega arith in
+        let g : p % 32 % 8 ≡ j = omega arith in
+        rw (e, f, g)
+
+-- word w of a lane is the word that stands there
+pub word-number : (L : ℕ) (bs : List ℕ) (l w : ℕ) → ((i : ℕ) → at bs i < 256)
+    → number (byteBits L bs l) (32 * w) 32 ≡ wordAt bs (4 * (w * L + l))
+word-number L bs l w fits =
+    let β : ℕ → ℕ = byteBits L bs l in
+    let s : ℕ = 32 * w in
+    let i : ℕ = 4 * (w * L + l) in
+    let q0 : number β s 8 ≡ at bs i = ap (λ (t : ℕ). number β t 8) (sym (add-zero s)) ∙ byte-number L bs l w 0 (omega arith) (fits _) ∙ ap (at bs) (add-zero i) in
+    let q1 : number β (s + 8) 8 ≡ at bs (i + 1) = byte-number L bs l w 1 (omega arith) (fits _) in
+    let q2 : number β (s + 16) 8 ≡ at bs (i + 2) = byte-number L bs l w 2 (omega arith) (fits _) in
+    let q3 : number β (s + 24) 8 ≡ at bs (i + 3) = byte-number L bs l w 3 (omega arith) (fits _) in
+    let e1 : number β s 32 ≡ number β (s + 8) 24 * 256 + number β s 8 = number-split β s 8 24 in
+    let e2 : number β (s + 8) 24 ≡ number β (s + 16) 16 * 256 + number β (s + 8) 8 = rw (add-assoc s 8 8) at (number-split β (s + 8) 8 16) in
+    let e3 : number β (s + 16) 16 ≡ number β (s + 24) 8 * 256 + number β (s + 16) 8 = rw (add-assoc s 16 8) at (number-split β (s + 16) 8 8) in
+    omega arith
+
+-- the byte of a payload that is byte b of word w of lane l
+pub payload-at : (L n : ℕ) (en : ℕ → ℕ) (w l b : ℕ) → l < L → b < 4
+    → payloadByte L n en (4 * (w * L + l) + b) ≡ number (entryBits L n en l) (32 * w + 8 * b) 8
+unfolding payloadByte
+payload-at L n en w l b h k =
+    let e : (4 * (w * L + l) + b) / 4 ≡ w * L + l = omega arith in
+    let f : (4 * (w * L + l) + b) % 4 ≡ b = omega arith in
+    rw (e, f, digits-div w h, digits-mod w h)
+
+-- entry k of a payload, by its row and lane
+pub entry-at : (L n : ℕ) (bs : List ℕ) (r l : ℕ) → l < L → payloadEntry L n bs (r * L + l) ≡ number (byteBits L bs l) (r * n) n
+unfolding payloadEntry
+entry-at L n bs r l h = rw (digits-div r h, digits-mod r h)

@@ -1,0 +1,5 @@
+pub mod Rows
+pub mod Sums
+pub mod Words
+pub mod Layout
+pub mod Width

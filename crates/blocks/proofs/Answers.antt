@@ -1,5 +1,5 @@
 -- The two ways out of a call: refused, with length 0 and memory as it was; or accepted.
-use mathlib.Core.Path.{_≡_, refl, sym, _∙_}
+use mathlib.Core.Path.{_≡_}
 use mathlib.Core.Bool.{true, false, cond}
 use mathlib.Core.List.{List}
 use Prim.Native.Nat.{ℕ}
@@ -22,8 +22,8 @@ module _ {k j : Refusal} (e : k ≡ j) where
     untouched new before = rw (← e, h)
 
   module _ (h : accepted k ≡ true) where
-    pub answered : (size : ℕ) → _≡_ {A = Answer} (record { refusal = k; length = size }) (answer j size)
-    answered size = rw (← e, h)
+    pub answered : {n size : ℕ} → n ≡ size → _≡_ {A = Answer} (record { refusal = k; length = n }) (answer j size)
+    answered q = rw (← e, h, q)
 
     pub measured : {w width : ℕ} → w ≡ width → _≡_ {A = Width} (record { refusal = k; width = w }) (record { refusal = j; width = cond (accepted j) width 0 })
     measured q = rw (← e, h, q)

@@ -3,3 +3,5 @@ pub mod Packing
 pub mod Unpacking
 pub mod Tests
 pub mod Answers
+pub mod Trips
+pub mod Starred

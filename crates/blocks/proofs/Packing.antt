@@ -1,22 +1,21 @@
 -- The loop of packing: what holds at row r, and that a turn keeps it.
-use mathlib.Core.Path.{_≡_, refl, sym, _∙_, ap, ap₂, subst}
+use mathlib.Core.Path.{_≡_, refl, sym, _∙_, ap, ap₂}
 use mathlib.Core.List.{List}
-use Prim.Native.Nat.{ℕ, zero, suc, _+_, _*_, _-_, _/_, _%_, _^_, _≤_, _<_}
-use native.Mathlib.Nat.{zero-mul, add-mul, one-mul, mul-assoc, mul-comm}
+use Prim.Native.Nat.{ℕ, _+_, _*_, _-_, _/_, _%_, _^_, _≤_, _<_}
+use native.Mathlib.Nat.{zero-mul, mul-assoc, mul-comm}
 use native.Mathlib.Omega.{arith}
 use native.Mathlib.Decide.{decLt}
-use lib.Arith.{digits-div, digits-mod}
 use lib.Bits.{bitOr}
 use lib.ListN.{length}
-use Rattle.lanes.specs.Rows.{IsRow, at}
-use Rattle.lanes.specs.Layout.{payloadSize, number, entryBits, payloadByte, packed}
+use Rattle.layout.specs.Layout.{at, payloadSize, number, entryBits, payloadByte, packed}
+use Rattle.lanes.specs.Rows.{IsRow}
 use Rattle.blocks.specs.Calls.{over}
 use Rattle.blocks.specs.kernel.Places.{WordsStored}
-use Rattle.lanes.proofs.Strings.{Bits, number-lt, number-shr, number-mod, number-byte, join-short, join-long}
-use Rattle.lanes.proofs.Products.{one-more, below-mul}
+use Rattle.layout.proofs.Strings.{number-shr, number-byte, join-short, join-long}
+use Rattle.layout.proofs.Products.{one-more, below-mul}
 use Rattle.lanes.proofs.Rows.{lane-of}
-use Rattle.lanes.proofs.Lanes.{payload-at, entry-bits, row-number}
-use Rattle.lanes.proofs.Tables.{front-table}
+use Rattle.layout.proofs.Lanes.{payload-at, entry-bits, row-number}
+use Rattle.layout.proofs.Tables.{front-table}
 
 -- x holds the first c bits of word w of each lane, the words before it are stored, and the rest of the output is as it was
 pub record Packing (L n : ℕ) (en : ℕ → ℕ) (before : List ℕ) (r w c : ℕ) (x out : List ℕ) : Type 0 where

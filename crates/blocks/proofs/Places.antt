@@ -1,14 +1,14 @@
 -- Laws of a row that is stored, one lane a turn.
-use mathlib.Core.Path.{_≡_, refl, sym, _∙_, ap, subst}
+use mathlib.Core.Path.{_≡_, _∙_, ap}
 use mathlib.Core.Logic.{_≢_}
 use mathlib.Core.List.{List}
 use Prim.Native.Nat.{ℕ, zero, suc, _+_, _*_, _-_, _/_, _%_, _^_, _≤_, _<_}
-use native.Mathlib.Nat.{not-suc-le-zero, div-one, add-zero}
+use native.Mathlib.Nat.{div-one, add-zero}
 use native.Mathlib.Omega.{arith}
 use native.Mathlib.Decide.{ℕ-discrete, decLt}
 use lib.ListN.{length, set, length-set}
-use Rattle.lanes.proofs.Stores.{at-same, at-other}
-use Rattle.lanes.specs.Rows.{at}
+use Rattle.layout.proofs.Stores.{at-same, at-other}
+use Rattle.layout.specs.Layout.{at}
 use Rattle.blocks.specs.kernel.Places.{withWord, WordsStored, RowStored}
 
 -- byte b of the word that is stored

@@ -3,16 +3,14 @@ use mathlib.Core.Path.{_≡_, refl, sym, _∙_}
 use mathlib.Core.Bool.{Bool, true, false, not}
 use mathlib.Core.Logic.{_↔_}
 use mathlib.Core.List.{List}
-use Prim.Native.Nat.{ℕ, zero, suc, _+_, _*_, _≤_, _<_}
-use native.Mathlib.Nat.{mul-le-mul}
+use Prim.Native.Nat.{ℕ, _≤_, _<_}
 use native.Mathlib.Omega.{arith}
 use native.Mathlib.Decide.{decLt}
 use borrow.Author.Tests.{ltb-false, le-ltb, eqb-true, eq-eqb, ne-eqb, not-false}
 use lib.Dec.{ltb, eqb}
 use lib.ListN.{length}
-use Rattle.lanes.specs.Rows.{at}
-use Rattle.lanes.specs.Layout.{blockSize, payloadSize}
-use Rattle.lanes.specs.Width.{fits}
+use Rattle.layout.specs.Layout.{at, blockSize, payloadSize}
+use Rattle.layout.specs.Width.{fits}
 use Rattle.modes.specs.declared.Mode.{Mode}
 use Rattle.modes.specs.Entries.{entries}
 use Rattle.blocks.specs.declared.refusal.Refusal.{Refusal}
@@ -42,12 +40,6 @@ lanes-of L h = (low (decLt 0 L), high (decLt 8 L))
     high : Dec (8 < L) → L ≤ 8
     high (no p) = omega arith
     high (yes p) = absurd (apart (sym (rw (ne-eqb L 1 (λ e. omega arith), ne-eqb L 4 (λ e. omega arith), ne-eqb L 8 (λ e. omega arith)) at h)))
-
--- a payload has at most 1,024 bytes
-pub size-fits : (L n : ℕ) → isLanes L ≡ true → n ≤ 32 → payloadSize L n ≤ 1024
-size-fits L n a b =
-    let e : 4 * L ≤ 32 = omega (arith, lanes-of L a) in
-    mul-le-mul e b
 
 -- what payload size accepts
 pub record Sizable (L n : ℕ) : Type 0 where

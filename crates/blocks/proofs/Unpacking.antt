@@ -1,23 +1,22 @@
 -- Unpacking, row by row: the row that is read and the bits that are left over; the output that the rows fill.
-use mathlib.Core.Path.{_≡_, refl, sym, _∙_, ap, ap₂, subst}
+use mathlib.Core.Path.{_≡_, refl, sym, _∙_, ap, ap₂}
 use mathlib.Core.List.{List}
-use Prim.Native.Nat.{ℕ, zero, suc, _+_, _*_, _-_, _/_, _%_, _^_, _≤_, _<_}
+use Prim.Native.Nat.{ℕ, _+_, _*_, _-_, _/_, _%_, _^_, _≤_, _<_}
 use native.Mathlib.Nat.{zero-mul, mul-assoc, mul-comm}
 use native.Mathlib.Omega.{arith}
 use native.Mathlib.Decide.{decLt}
 use lib.Bits.{bitOr, bitAnd, and-mask}
 use lib.ListN.{length}
-use Rattle.lanes.specs.Rows.{IsRow, at}
-use Rattle.lanes.specs.Layout.{blockSize, payloadSize, number, table, byteBits, payloadEntry}
-use Rattle.lanes.specs.Words.{wordAt}
+use Rattle.layout.specs.Layout.{at, blockSize, payloadSize, number, table, byteBits, payloadEntry, wordAt}
+use Rattle.lanes.specs.Rows.{IsRow}
 use Rattle.blocks.specs.Calls.{over}
 use Rattle.blocks.specs.kernel.Places.{RowStored}
 use Rattle.blocks.specs.kernel.Registers.{Held, bitsLeft}
-use Rattle.lanes.proofs.Strings.{Bits, number-lt, number-shr, number-mod, join-long}
-use Rattle.lanes.proofs.Products.{one-more, below-mul}
+use Rattle.layout.proofs.Strings.{number-shr, number-mod, join-long}
+use Rattle.layout.proofs.Products.{one-more, below-mul}
 use Rattle.lanes.proofs.Rows.{lane-of}
-use Rattle.lanes.proofs.Lanes.{entry-at, byte-bits, word-number}
-use Rattle.lanes.proofs.Tables.{front-table}
+use Rattle.layout.proofs.Lanes.{entry-at, byte-bits, word-number}
+use Rattle.layout.proofs.Tables.{front-table}
 
 -- before the first row nothing is left
 pub held-none : (L n : ℕ) (bs : List ℕ) {x : List ℕ} → L ≤ 8 → IsRow x (λ l. 0) → Held L n bs 0 x

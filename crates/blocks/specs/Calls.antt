@@ -1,12 +1,11 @@
 -- "Block calls" of document 01: which refusal each call gives, what it answers, and what it leaves in lent memory.
 use mathlib.Core.Bool.{Bool, not, _||_, cond}
 use mathlib.Core.List.{List, _++_}
-use Prim.Native.Nat.{ℕ, _*_}
+use Prim.Native.Nat.{ℕ}
 use lib.Dec.{ltb, eqb}
 use lib.ListN.{length, drop}
-use Rattle.lanes.specs.Rows.{at}
-use Rattle.lanes.specs.Layout.{blockSize, payloadSize, table, packed, payloadEntry}
-use Rattle.lanes.specs.Width.{fits, leastWidth}
+use Rattle.layout.specs.Layout.{at, blockSize, payloadSize, table, packed, payloadEntry}
+use Rattle.layout.specs.Width.{fits, leastWidth}
 use Rattle.modes.specs.declared.Mode.{Mode}
 use Rattle.modes.specs.Entries.{entries, values}
 use Rattle.blocks.specs.declared.Answer.{Answer}

@@ -10,9 +10,8 @@ use modes::transform;
 ghost use mathlib.Core.Path.{_≡_};
 ghost use Prim.Native.Nat.{ℕ, _+_, _*_, _≤_, _<_};
 ghost use lib.ListN.{length};
-ghost use Rattle.lanes.specs.Rows.{at};
-ghost use Rattle.lanes.specs.Layout.{blockSize};
-ghost use Rattle.lanes.specs.Width.{leastWidth, orAll};
+ghost use Rattle.layout.specs.Layout.{at, blockSize};
+ghost use Rattle.layout.specs.Width.{leastWidth, orAll};
 ghost use Rattle.modes.specs.Entries.{entries};
 
 // The entries of each lane, or-ed together.

@@ -5,7 +5,9 @@ use pack::pack;
 use refusal::Refusal;
 use unpack::unpack;
 ghost use mathlib.Core.Path.{_≡_};
+ghost use Prim.Native.Nat.{_≤_};
 ghost use lib.ListN.{length};
+ghost use Rattle.layout.specs.Layout.{payloadSize};
 ghost use Rattle.blocks.specs.Calls.{isLanes, sizeRefusal, sizeAnswer, packRefusal, packAnswer, packOutput, unpackRefusal, unpackAnswer, unpackOutput, widthRefusal, widthAnswer};
 
 mod least_width;
@@ -39,6 +41,14 @@ fn is_lanes(lanes: usize) -> bool
     lanes == 8
 }
 
+// How many bytes the words of a payload take.
+fn compute_num_bytes_per_block(lanes: usize, width: u32) -> usize
+    requires { ⌜ (lanes ≤ 8) × (width ≤ 32) ⌝ }
+    ensures { λ r. ⌜ r ≡ payloadSize lanes width ⌝ }
+{
+    4 * lanes * width as usize
+}
+
 fn size_refusal(lanes: usize, width: u32) -> Refusal
     ensures { λ r. ⌜ r ≡ sizeRefusal lanes width ⌝ }
 {
@@ -61,7 +71,7 @@ pub fn compressed_block_size(lanes: usize, width: u32) -> Answer
     }
     Answer {
         refusal,
-        length: 4 * lanes * width as usize,
+        length: compute_num_bytes_per_block(lanes, width),
     }
 }
 
@@ -77,7 +87,7 @@ fn pack_refusal(lanes: usize, mode: Mode, values: &[u32], room: usize, width: u3
     if values.len() != 32 * lanes {
         return Refusal::BadBlock;
     }
-    if room < 4 * lanes * width as usize {
+    if room < compute_num_bytes_per_block(lanes, width) {
         return Refusal::NoRoom;
     }
     if width < least_width(lanes, mode, values) {
@@ -104,7 +114,7 @@ pub fn compress(
     pack(lanes, mode, &decompressed[..], &mut compressed[..], width);
     Answer {
         refusal,
-        length: 4 * lanes * width as usize,
+        length: compute_num_bytes_per_block(lanes, width),
     }
 }
 
@@ -120,7 +130,7 @@ fn unpack_refusal(lanes: usize, size: usize, room: usize, width: u32) -> Refusal
     if room < 32 * lanes {
         return Refusal::NoRoom;
     }
-    if size < 4 * lanes * width as usize {
+    if size < compute_num_bytes_per_block(lanes, width) {
         return Refusal::CutShort;
     }
     Refusal::Accepted
@@ -144,7 +154,7 @@ pub fn decompress(
     unpack(lanes, mode, &compressed[..], &mut decompressed[..], width);
     Answer {
         refusal,
-        length: 4 * lanes * width as usize,
+        length: compute_num_bytes_per_block(lanes, width),
     }
 }
 

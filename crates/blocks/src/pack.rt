@@ -12,9 +12,8 @@ ghost use mathlib.Core.Path.{_≡_};
 ghost use mathlib.Core.Bool.{true};
 ghost use Prim.Native.Nat.{_≤_, _<_};
 ghost use lib.ListN.{length};
-ghost use Rattle.lanes.specs.Rows.{at};
-ghost use Rattle.lanes.specs.Layout.{blockSize, payloadSize, packed};
-ghost use Rattle.lanes.specs.Width.{fits};
+ghost use Rattle.layout.specs.Layout.{at, blockSize, payloadSize, packed};
+ghost use Rattle.layout.specs.Width.{fits};
 ghost use Rattle.modes.specs.Entries.{entries};
 ghost use Rattle.blocks.specs.Calls.{over};
 

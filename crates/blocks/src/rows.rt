@@ -2,7 +2,7 @@
 ghost use mathlib.Core.Path.{_≡_};
 ghost use Prim.Native.Nat.{ℕ, _+_, _≤_, _<_};
 ghost use lib.ListN.{length};
-ghost use Rattle.lanes.specs.Rows.{at};
+ghost use Rattle.layout.specs.Layout.{at};
 ghost use Rattle.blocks.specs.kernel.Places.{RowStored};
 
 // The row of the values from `base` on, one for each lane in use.

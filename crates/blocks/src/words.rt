@@ -2,8 +2,7 @@
 ghost use mathlib.Core.Path.{_≡_};
 ghost use Prim.Native.Nat.{ℕ, _+_, _*_, _≤_, _<_};
 ghost use lib.ListN.{length};
-ghost use Rattle.lanes.specs.Rows.{at};
-ghost use Rattle.lanes.specs.Words.{wordAt};
+ghost use Rattle.layout.specs.Layout.{at, wordAt};
 ghost use Rattle.blocks.specs.kernel.Places.{withWord, WordsStored};
 
 fn wide(x: u8) -> u32

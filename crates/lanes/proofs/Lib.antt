@@ -1,10 +1,2 @@
 pub mod Shifts
 pub mod Rows
-pub mod Products
-pub mod Tables
-pub mod Strings
-pub mod Lanes
-pub mod RoundTrip
-pub mod Joined
-pub mod Widths
-pub mod Stores

@@ -5,7 +5,8 @@ use Prim.Native.Nat.{ℕ, zero, suc, _<_}
 use native.Mathlib.Omega.{arith}
 use lib.ListN.{length}
 use lib.Seq.{ext-getD}
-use Rattle.lanes.specs.Rows.{IsRow, at}
+use Rattle.layout.specs.Layout.{at}
+use Rattle.lanes.specs.Rows.{IsRow}
 use Rattle.lanes.specs.Sums.{plus, running}
 
 -- the number of lane l

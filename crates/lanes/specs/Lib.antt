@@ -1,5 +1,2 @@
 pub mod Rows
 pub mod Sums
-pub mod Words
-pub mod Layout
-pub mod Width

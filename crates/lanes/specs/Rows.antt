@@ -2,11 +2,7 @@
 use mathlib.Core.Path.{_≡_}
 use mathlib.Core.List.{List}
 use Prim.Native.Nat.{ℕ, _-_}
-use lib.ListN.{getD}
-
--- the number at place k of the list x, and 0 past its end
-abbrev pub at : List ℕ → ℕ → ℕ
-at x k = getD x k 0
+use Rattle.layout.specs.Layout.{at}
 
 -- the number of the last of L lanes
 abbrev pub lastLane : ℕ → List ℕ → ℕ

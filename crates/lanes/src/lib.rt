@@ -1,6 +1,6 @@
 // Rows of numbers, one for each lane, and the width of one number.
 ghost use mathlib.Core.Path.{_≡_};
-ghost use Rattle.lanes.specs.Width.{significant};
+ghost use Rattle.layout.specs.Width.{significant};
 
 pub mod scalar;
 

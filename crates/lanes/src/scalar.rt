@@ -2,9 +2,10 @@
 ghost use mathlib.Core.Path.{_≡_};
 ghost use Prim.Native.Nat.{_*_, _/_, _%_, _^_, min};
 ghost use lib.Bits.{bitOr, bitAnd};
-ghost use Rattle.lanes.specs.Rows.{IsRow, at, lastLane};
+ghost use Rattle.layout.specs.Layout.{at};
+ghost use Rattle.lanes.specs.Rows.{IsRow, lastLane};
 ghost use Rattle.lanes.specs.Sums.{plus, minus, before, running};
-ghost use Rattle.lanes.specs.Width.{orAll};
+ghost use Rattle.layout.specs.Width.{orAll};
 
 // The row that has el in every lane.
 pub fn set1(el: u32) -> [u32; 8]

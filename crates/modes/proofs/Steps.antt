@@ -1,12 +1,13 @@
 -- A block row by row: what the row operations answer are the block's entries and values.
 use mathlib.Core.Path.{_≡_, refl, sym, _∙_, ap, ap₂}
 use mathlib.Core.List.{List}
-use Prim.Native.Nat.{ℕ, zero, suc, _+_, _*_, _-_, _%_, _^_, _≤_, _<_}
+use Prim.Native.Nat.{ℕ, zero, suc, _+_, _*_, _-_, _≤_, _<_}
 use native.Mathlib.Nat.{add-zero, add-suc, zero-mul}
 use native.Mathlib.Omega.{arith}
-use Rattle.lanes.specs.Rows.{IsRow, at, lastLane}
-use Rattle.lanes.specs.Sums.{plus, minus, before, running}
-use Rattle.lanes.proofs.Products.{one-more}
+use Rattle.layout.specs.Layout.{at}
+use Rattle.lanes.specs.Rows.{IsRow, lastLane}
+use Rattle.lanes.specs.Sums.{plus, before, running}
+use Rattle.layout.proofs.Products.{one-more}
 use Rattle.lanes.proofs.Rows.{lane-of}
 use Rattle.modes.specs.Entries.{firstOf, entryOf, valueOf, entries, valuesFrom, values}
 use Rattle.modes.specs.declared.Initial.{Initial}

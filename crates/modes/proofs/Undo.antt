@@ -1,8 +1,8 @@
 -- Entries and values undo each other, in all three modes.
-use mathlib.Core.Path.{_≡_, refl, sym, _∙_, ap, ap₂}
-use Prim.Native.Nat.{ℕ, zero, suc, _+_, _-_, _%_, _^_, _≤_, _<_}
+use mathlib.Core.Path.{_≡_, refl, ap, ap₂}
+use Prim.Native.Nat.{ℕ, zero, suc, _-_, _^_, _≤_, _<_}
 use native.Mathlib.Omega.{arith}
-use Rattle.lanes.specs.Sums.{plus, minus, before}
+use Rattle.lanes.specs.Sums.{before}
 use Rattle.modes.specs.Entries.{firstOf, entryOf, valueOf, entries, valuesFrom, values}
 use Rattle.modes.specs.declared.Mode.{Mode}
 use Rattle.modes.specs.declared.Mode.the-variants.{Plain, Sorted, Strict}

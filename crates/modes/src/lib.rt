@@ -5,7 +5,8 @@ use lanes::scalar::integrate_delta;
 use lanes::scalar::set1;
 use lanes::scalar::sub;
 ghost use mathlib.Core.Path.{_≡_};
-ghost use Rattle.lanes.specs.Rows.{IsRow, at, lastLane};
+ghost use Rattle.layout.specs.Layout.{at};
+ghost use Rattle.lanes.specs.Rows.{IsRow, lastLane};
 ghost use Rattle.lanes.specs.Sums.{before};
 ghost use Rattle.modes.specs.Entries.{firstOf, entryOf, valuesFrom};
 

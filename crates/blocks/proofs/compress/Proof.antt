@@ -4,11 +4,10 @@ use mathlib.Core.Bool.{true}
 use lib.ListN.{length}
 use native.Mathlib.Omega.{arith}
 use borrow.Author.Tests.{not-true, not-false}
-use Rattle.lanes.specs.Rows.{at}
-use Rattle.lanes.specs.Layout.{packed}
+use Rattle.layout.specs.Layout.{at, packed}
 use Rattle.modes.specs.Entries.{entries}
 use Rattle.blocks.specs.Refusals.{accepted}
-use Rattle.blocks.proofs.Tests.{Packable, pack-exactly, size-fits, lanes-of}
+use Rattle.blocks.proofs.Tests.{Packable, pack-exactly, lanes-of}
 use Rattle.blocks.proofs.Answers.{refused, untouched, answered, overwritten}
 use borrow.Author.Needs.{needs}
 use Rattle.blocks.proofs.compress.Statement.{statement}
@@ -33,22 +32,20 @@ pack-requires c κs =
     let g = lanes-of _ (p .lanes) in
     ((g .0, g .1, p .width, omega (arith, p .block), p .enough), p .fit)
 
-mul-t7 : tie.Need-mul-t7
-mul-t7 c = omega (arith, lanes-of _ (able (c .before .before .before .before) .lanes))
-
-mul-t16 : tie.Need-mul-t16
-mul-t16 c =
+compute-num-bytes-per-block-requires : tie.Need-compute-num-bytes-per-block-requires
+compute-num-bytes-per-block-requires c κs =
     let p = able (c .before .before .before .before) in
-    omega (arith, size-fits _ _ (p .lanes) (p .width))
+    (lanes-of _ (p .lanes) .1, p .width)
 
 returns-2 : tie.Need-returns-2
 returns-2 c =
-    let e = c .before .before .before .before in
+    let d = c .before in
+    let e = d .before .before .before .before in
     let k = e .before .before .pack-refusal .ensures in
     let a = e .before .before .before .before .before .args in (
-      answered k (yes-accepted e) _,
-      overwritten k (yes-accepted e) (packed (a .lanes) (a .width) (entries (a .mode) (at (a .decompressed .now)))) (a .compressed .now) (c .before .before .pack .ensures),
+      answered k (yes-accepted e) (c .compute-num-bytes-per-block .ensures),
+      overwritten k (yes-accepted e) (packed (a .lanes) (a .width) (entries (a .mode) (at (a .decompressed .now)))) (a .compressed .now) (d .before .before .pack .ensures),
     )
 
 pub compress-spec : {M : Type 1} → statement M
-compress-spec = tie.close (tie.spec (search needs) (search needs) returns pack-requires mul-t7 mul-t16 (search needs) returns-2)
+compress-spec = tie.close (tie.spec (search needs) (search needs) returns pack-requires compute-num-bytes-per-block-requires (search needs) returns-2)

@@ -1,11 +1,9 @@
 -- A refusal is passed on with length 0; else the length is the payload's, which is small.
-use mathlib.Core.Path.{_≡_, sym, _∙_, subst}
-use mathlib.Core.Bool.{Bool, true, false}
-use native.Mathlib.Omega.{arith}
+use mathlib.Core.Path.{_≡_, sym, _∙_}
+use mathlib.Core.Bool.{true}
 use borrow.Author.Tests.{not-true, not-false}
-use Rattle.blocks.specs.declared.refusal.Refusal.{Refusal}
 use Rattle.blocks.specs.Refusals.{accepted}
-use Rattle.blocks.proofs.Tests.{Sizable, size-exactly, size-fits, lanes-of}
+use Rattle.blocks.proofs.Tests.{Sizable, size-exactly, lanes-of}
 use Rattle.blocks.proofs.Answers.{refused, answered}
 use borrow.Author.Needs.{needs}
 use Rattle.blocks.proofs.compressed_block_size.Statement.{statement}
@@ -21,14 +19,13 @@ returns : tie.Need-returns
 returns c =
     refused (c .before .before .size-refusal .ensures) (sym (c .before .is-accepted .ensures) ∙ not-true _ (c .if1 .taken)) _
 
-mul-t6 : tie.Need-mul-t6
-mul-t6 c = omega (arith, lanes-of _ (able c .lanes))
-
-mul-t8 : tie.Need-mul-t8
-mul-t8 c = omega (arith, size-fits _ _ (able c .lanes) (able c .width))
+compute-num-bytes-per-block-requires : tie.Need-compute-num-bytes-per-block-requires
+compute-num-bytes-per-block-requires c κs = (lanes-of _ (able c .lanes) .1, able c .width)
 
 returns-2 : tie.Need-returns-2
-returns-2 c = answered (c .before .before .size-refusal .ensures) (yes-accepted c) _
+returns-2 c =
+    let e = c .before in
+    answered (e .before .before .size-refusal .ensures) (yes-accepted e) (c .compute-num-bytes-per-block .ensures)
 
 pub compressed-block-size-spec : {M : Type 1} → statement M
-compressed-block-size-spec = tie.close (tie.spec (search needs) (search needs) returns mul-t6 mul-t8 returns-2)
+compressed-block-size-spec = tie.close (tie.spec (search needs) (search needs) returns compute-num-bytes-per-block-requires returns-2)

@@ -2,11 +2,10 @@
 use mathlib.Core.Path.{_≡_, sym, _∙_}
 use mathlib.Core.Bool.{true}
 use lib.ListN.{length}
-use native.Mathlib.Omega.{arith}
 use borrow.Author.Tests.{not-true, not-false}
 use Rattle.blocks.specs.Calls.{unpacked}
 use Rattle.blocks.specs.Refusals.{accepted}
-use Rattle.blocks.proofs.Tests.{Unpackable, unpack-exactly, size-fits, lanes-of}
+use Rattle.blocks.proofs.Tests.{Unpackable, unpack-exactly, lanes-of}
 use Rattle.blocks.proofs.Answers.{refused, untouched, answered, overwritten}
 use borrow.Author.Needs.{needs}
 use Rattle.blocks.proofs.decompress.Statement.{statement}
@@ -31,22 +30,20 @@ unpack-requires c κs =
     let g = lanes-of _ (p .lanes) in
     (g .0, g .1, p .width, p .whole, p .enough)
 
-mul-t7 : tie.Need-mul-t7
-mul-t7 c = omega (arith, lanes-of _ (able (c .before .before .before .before) .lanes))
-
-mul-t16 : tie.Need-mul-t16
-mul-t16 c =
+compute-num-bytes-per-block-requires : tie.Need-compute-num-bytes-per-block-requires
+compute-num-bytes-per-block-requires c κs =
     let p = able (c .before .before .before .before) in
-    omega (arith, size-fits _ _ (p .lanes) (p .width))
+    (lanes-of _ (p .lanes) .1, p .width)
 
 returns-2 : tie.Need-returns-2
 returns-2 c =
-    let e = c .before .before .before .before in
+    let d = c .before in
+    let e = d .before .before .before .before in
     let k = e .before .before .unpack-refusal .ensures in
     let a = e .before .before .before .before .before .args in (
-      answered k (yes-accepted e) _,
-      overwritten k (yes-accepted e) (unpacked (a .lanes) (a .mode) (a .compressed .now) (a .width)) (a .decompressed .now) (c .before .before .unpack .ensures),
+      answered k (yes-accepted e) (c .compute-num-bytes-per-block .ensures),
+      overwritten k (yes-accepted e) (unpacked (a .lanes) (a .mode) (a .compressed .now) (a .width)) (a .decompressed .now) (d .before .before .unpack .ensures),
     )
 
 pub decompress-spec : {M : Type 1} → statement M
-decompress-spec = tie.close (tie.spec (search needs) (search needs) returns unpack-requires mul-t7 mul-t16 (search needs) returns-2)
+decompress-spec = tie.close (tie.spec (search needs) (search needs) returns unpack-requires compute-num-bytes-per-block-requires (search needs) returns-2)

@@ -1,17 +1,16 @@
 -- Each test that passed or failed is the definition's, in its order; a block fits a width exactly from its least width on.
 use mathlib.Core.Path.{_≡_, sym, _∙_}
 use mathlib.Core.Bool.{true}
-use Prim.Native.Nat.{ℕ, _*_, _^_, _≤_, _<_}
+use Prim.Native.Nat.{_*_}
 use native.Mathlib.Omega.{arith}
 use borrow.Author.Tests.{lt-ltb, le-ltb, eq-eqb, ne-eqb, not-true, not-false}
 use lib.ListN.{length}
-use Rattle.lanes.specs.Rows.{at}
-use Rattle.lanes.specs.Layout.{blockSize}
-use Rattle.lanes.proofs.Widths.{Fit, fits-exactly, fits-not}
+use Rattle.layout.specs.Layout.{at, blockSize, payloadSize}
+use Rattle.layout.proofs.Widths.{Fit, fits-exactly, fits-not}
 use Rattle.modes.specs.Entries.{entries}
 use Rattle.modes.proofs.Undo.{entries-small}
 use Rattle.blocks.specs.Calls.{isLanes}
-use Rattle.blocks.proofs.Tests.{lanes-of, size-fits}
+use Rattle.blocks.proofs.Tests.{lanes-of}
 use borrow.Author.Needs.{needs}
 use Rattle.blocks.proofs.pack_refusal.Statement.{statement}
 use Rattle.blocks.proofs.pack_refusal.Tie as tie
@@ -20,10 +19,10 @@ good : (c : tie.Else1) → isLanes (c .before .before .before .args .lanes) ≡ 
 good c = sym (c .before .is-lanes .ensures) ∙ not-false _ (c .if1 .left)
 
 -- every entry is a number of 32 bits
-small : (c : tie.Else4) → Fit (entries (c .before .before .before .before .before .before .args .mode) (at (c .before .before .before .before .before .before .args .values .now))) (blockSize (c .before .before .before .before .before .before .args .lanes)) 32
+small : (c : tie.Else3) → Fit (entries (c .before .before .before .before .before .args .mode) (at (c .before .before .before .before .before .args .values .now))) (blockSize (c .before .before .before .before .before .args .lanes)) 32
 small c =
-    let g = c .before .before .before .before .before .shared-slice-known .given in
-    let a = c .before .before .before .before .before .before .args in
+    let g = c .before .before .before .before .shared-slice-known .given in
+    let a = c .before .before .before .before .before .args in
     λ k h. entries-small (a .mode) (at (a .values .now)) k (g k .fits)
 
 returns : tie.Need-returns
@@ -40,32 +39,34 @@ returns-3 c =
     let a = c .before .before .before .before .before .args in
     rw (good (c .before .before), le-ltb 32 (a .width) (c .before .if2 .left), ne-eqb (length (a .values .now)) (32 * a .lanes) (c .if3 .taken))
 
-mul-if4-2 : tie.Need-mul-if4-2
-mul-if4-2 c =
-    let a = c .before .before .before .before .before .args in
-    omega (arith, size-fits (a .lanes) (a .width) (good (c .before .before)) (c .before .if2 .left))
+compute-num-bytes-per-block-requires : tie.Need-compute-num-bytes-per-block-requires
+compute-num-bytes-per-block-requires c κs = (lanes-of _ (good (c .before .before)) .1, c .before .if2 .left)
 
 returns-4 : tie.Need-returns-4
 returns-4 c =
-    let a = c .before .before .before .before .before .before .args in
-    rw (good (c .before .before .before), le-ltb 32 (a .width) (c .before .before .if2 .left), eq-eqb (length (a .values .now)) (32 * a .lanes) (c .before .if3 .left), lt-ltb (a .room) (4 * a .lanes * a .width) (c .if4 .taken))
+    let e = c .before .before in
+    let a = e .before .before .before .before .before .args in
+    rw (good (e .before .before), le-ltb 32 (a .width) (e .before .if2 .left), eq-eqb (length (a .values .now)) (32 * a .lanes) (e .if3 .left), lt-ltb (a .room) (payloadSize (a .lanes) (a .width)) (rw (c .before .compute-num-bytes-per-block .ensures) at (c .if4 .taken)))
 
 least-width-requires : tie.Need-least-width-requires
 least-width-requires c κs =
-    let g = lanes-of _ (good (c .before .before .before)) in
-    (g .0, g .1, omega (arith, c .before .if3 .left))
+    let e = c .before .before in
+    let g = lanes-of _ (good (e .before .before)) in
+    (g .0, g .1, omega (arith, e .if3 .left))
 
 returns-5 : tie.Need-returns-5
 returns-5 c =
-    let e = c .before .before in
-    let a = e .before .before .before .before .before .before .args in
-    rw (good (e .before .before .before), le-ltb 32 (a .width) (e .before .before .if2 .left), eq-eqb (length (a .values .now)) (32 * a .lanes) (e .before .if3 .left), le-ltb (a .room) (4 * a .lanes * a .width) (e .if4 .left), fits-not _ _ (a .width) (small e) (rw (c .before .least-width .ensures) at (c .if5 .taken)))
+    let d = c .before .before in
+    let e = d .before .before in
+    let a = e .before .before .before .before .before .args in
+    rw (good (e .before .before), le-ltb 32 (a .width) (e .before .if2 .left), eq-eqb (length (a .values .now)) (32 * a .lanes) (e .if3 .left), le-ltb (a .room) (payloadSize (a .lanes) (a .width)) (rw (d .before .compute-num-bytes-per-block .ensures) at (d .if4 .left)), fits-not _ _ (a .width) (small e) (rw (c .before .least-width .ensures) at (c .if5 .taken)))
 
 returns-6 : tie.Need-returns-6
 returns-6 c =
-    let e = c .before .before in
-    let a = e .before .before .before .before .before .before .args in
-    rw (good (e .before .before .before), le-ltb 32 (a .width) (e .before .before .if2 .left), eq-eqb (length (a .values .now)) (32 * a .lanes) (e .before .if3 .left), le-ltb (a .room) (4 * a .lanes * a .width) (e .if4 .left), fits-exactly _ _ (a .width) (small e) .1 (rw (c .before .least-width .ensures) at (c .if5 .left)))
+    let d = c .before .before in
+    let e = d .before .before in
+    let a = e .before .before .before .before .before .args in
+    rw (good (e .before .before), le-ltb 32 (a .width) (e .before .if2 .left), eq-eqb (length (a .values .now)) (32 * a .lanes) (e .if3 .left), le-ltb (a .room) (payloadSize (a .lanes) (a .width)) (rw (d .before .compute-num-bytes-per-block .ensures) at (d .if4 .left)), fits-exactly _ _ (a .width) (small e) .1 (rw (c .before .least-width .ensures) at (c .if5 .left)))
 
 pub pack-refusal-spec : {M : Type 1} → statement M
-pack-refusal-spec = tie.close (tie.spec (search needs) returns returns-2 mul-if3 returns-3 (search needs) mul-if4-2 returns-4 least-width-requires returns-5 returns-6)
+pack-refusal-spec = tie.close (tie.spec (search needs) returns returns-2 mul-if3 returns-3 compute-num-bytes-per-block-requires returns-4 least-width-requires returns-5 returns-6)

@@ -4,8 +4,9 @@ use mathlib.Core.Bool.{true}
 use Prim.Native.Nat.{_*_}
 use native.Mathlib.Omega.{arith}
 use borrow.Author.Tests.{lt-ltb, le-ltb, not-true, not-false}
+use Rattle.layout.specs.Layout.{payloadSize}
 use Rattle.blocks.specs.Calls.{isLanes}
-use Rattle.blocks.proofs.Tests.{lanes-of, size-fits}
+use Rattle.blocks.proofs.Tests.{lanes-of}
 use borrow.Author.Needs.{needs}
 use Rattle.blocks.proofs.unpack_refusal.Statement.{statement}
 use Rattle.blocks.proofs.unpack_refusal.Tie as tie
@@ -27,20 +28,20 @@ returns-3 c =
     let a = c .before .before .before .before .args in
     rw (good (c .before .before), le-ltb 32 (a .width) (c .before .if2 .left), lt-ltb (a .room) (32 * a .lanes) (c .if3 .taken))
 
-mul-if4-2 : tie.Need-mul-if4-2
-mul-if4-2 c =
-    let a = c .before .before .before .before .args in
-    omega (arith, size-fits (a .lanes) (a .width) (good (c .before .before)) (c .before .if2 .left))
+compute-num-bytes-per-block-requires : tie.Need-compute-num-bytes-per-block-requires
+compute-num-bytes-per-block-requires c κs = (lanes-of _ (good (c .before .before)) .1, c .before .if2 .left)
 
 returns-4 : tie.Need-returns-4
 returns-4 c =
-    let a = c .before .before .before .before .before .args in
-    rw (good (c .before .before .before), le-ltb 32 (a .width) (c .before .before .if2 .left), le-ltb (a .room) (32 * a .lanes) (c .before .if3 .left), lt-ltb (a .size) (4 * a .lanes * a .width) (c .if4 .taken))
+    let e = c .before .before in
+    let a = e .before .before .before .before .args in
+    rw (good (e .before .before), le-ltb 32 (a .width) (e .before .if2 .left), le-ltb (a .room) (32 * a .lanes) (e .if3 .left), lt-ltb (a .size) (payloadSize (a .lanes) (a .width)) (rw (c .before .compute-num-bytes-per-block .ensures) at (c .if4 .taken)))
 
 returns-5 : tie.Need-returns-5
 returns-5 c =
-    let a = c .before .before .before .before .before .args in
-    rw (good (c .before .before .before), le-ltb 32 (a .width) (c .before .before .if2 .left), le-ltb (a .room) (32 * a .lanes) (c .before .if3 .left), le-ltb (a .size) (4 * a .lanes * a .width) (c .if4 .left))
+    let e = c .before .before in
+    let a = e .before .before .before .before .args in
+    rw (good (e .before .before), le-ltb 32 (a .width) (e .before .if2 .left), le-ltb (a .room) (32 * a .lanes) (e .if3 .left), le-ltb (a .size) (payloadSize (a .lanes) (a .width)) (rw (c .before .compute-num-bytes-per-block .ensures) at (c .if4 .left)))
 
 pub unpack-refusal-spec : {M : Type 1} → statement M
-unpack-refusal-spec = tie.close (tie.spec (search needs) returns returns-2 mul-if3 returns-3 (search needs) mul-if4-2 returns-4 returns-5)
+unpack-refusal-spec = tie.close (tie.spec (search needs) returns returns-2 mul-if3 returns-3 compute-num-bytes-per-block-requires returns-4 returns-5)

@@ -3,7 +3,7 @@ use mathlib.Core.Path.{_≡_}
 use mathlib.Core.List.{List}
 use Prim.Native.Nat.{ℕ, _+_, _*_, _-_, _/_, _%_, _^_, _≤_, _<_}
 use lib.ListN.{set, length}
-use Rattle.lanes.specs.Rows.{at}
+use Rattle.layout.specs.Layout.{at}
 
 -- the bytes with the word v stored from byte i on
 abbrev pub withWord : List ℕ → ℕ → ℕ → List ℕ

@@ -2,8 +2,7 @@
 use mathlib.Core.Path.{_≡_}
 use mathlib.Core.List.{List}
 use Prim.Native.Nat.{ℕ, _+_, _*_, _-_, _/_, _<_}
-use Rattle.lanes.specs.Rows.{at}
-use Rattle.lanes.specs.Layout.{number, byteBits}
+use Rattle.layout.specs.Layout.{at, number, byteBits}
 
 -- how many bits are left of the words read before row r: those up to the end of the word that row r - 1 ends in
 abbrev pub bitsLeft : ℕ → ℕ → ℕ

@@ -1,9 +1,8 @@
 -- 0 apart, the leading-zero count is at most 32, and the answer is the definition's.
-use mathlib.Core.Path.{_≡_, refl}
 use native.Mathlib.Omega.{arith}
 use lib.Count.{leading-le}
-use Rattle.lanes.specs.Width.{significant}
-use Rattle.lanes.proofs.Joined.{significant-of}
+use Rattle.layout.specs.Width.{significant}
+use Rattle.layout.proofs.Joined.{significant-of}
 use Rattle.lanes.proofs.most_significant_bit.Statement.{statement}
 use Rattle.lanes.proofs.most_significant_bit.Tie as tie
 

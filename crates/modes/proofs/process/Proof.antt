@@ -1,5 +1,5 @@
 -- By the mode: the row itself, the row's running sums, or those of the differences with 1 added.
-use mathlib.Core.Path.{_≡_, _∙_, ap}
+use mathlib.Core.Path.{_∙_, ap}
 use native.Mathlib.Omega.{arith}
 use borrow.Author.Needs.{needs}
 use Rattle.lanes.specs.Sums.{plus}

@@ -3,12 +3,13 @@ use mathlib.Core.Path.{_≡_, _∙_}
 use Prim.Native.Nat.{ℕ, _+_, _*_, _-_, _≤_, _<_}
 use native.Mathlib.Nat.{mul-le-mul}
 use native.Mathlib.Omega.{arith}
-use Rattle.lanes.specs.Rows.{at, lastLane}
+use Rattle.layout.specs.Layout.{at}
+use Rattle.lanes.specs.Rows.{lastLane}
 use Rattle.lanes.specs.Sums.{before}
-use Rattle.lanes.specs.Width.{orAll}
-use Rattle.lanes.proofs.Products.{below-mul}
+use Rattle.layout.specs.Width.{orAll}
+use Rattle.layout.proofs.Products.{below-mul}
 use Rattle.lanes.proofs.Rows.{lane-of}
-use Rattle.lanes.proofs.Joined.{or-none, or-more}
+use Rattle.layout.proofs.Joined.{or-none, or-more}
 use Rattle.modes.specs.Entries.{firstOf, entries}
 use Rattle.modes.proofs.Steps.{entries-row, last-start, last-next}
 use borrow.Author.Needs.{needs}

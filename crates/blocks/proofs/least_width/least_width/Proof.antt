@@ -1,10 +1,8 @@
 -- The entries of all lanes or-ed together have the least width (`least-by-lanes`).
 use mathlib.Core.Path.{sym, _∙_, ap}
-use Prim.Native.Nat.{_^_, _<_}
-use native.Mathlib.Omega.{arith}
-use Rattle.lanes.specs.Rows.{at}
-use Rattle.lanes.specs.Width.{significant}
-use Rattle.lanes.proofs.Widths.{least-by-lanes}
+use Rattle.layout.specs.Layout.{at}
+use Rattle.layout.specs.Width.{significant}
+use Rattle.layout.proofs.Widths.{least-by-lanes}
 use Rattle.modes.specs.Entries.{entries}
 use Rattle.modes.proofs.Undo.{entries-small}
 use borrow.Author.Needs.{needs}

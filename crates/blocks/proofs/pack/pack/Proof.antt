@@ -4,11 +4,11 @@ use Prim.Native.Nat.{ℕ, _+_, _*_, _-_, _≤_, _<_}
 use native.Mathlib.Nat.{mul-le-mul}
 use native.Mathlib.Omega.{arith}
 use lib.ListN.{length}
-use Rattle.lanes.specs.Rows.{at, lastLane}
+use Rattle.layout.specs.Layout.{at}
+use Rattle.lanes.specs.Rows.{lastLane}
 use Rattle.lanes.specs.Sums.{before}
-use Rattle.lanes.specs.Layout.{blockSize}
-use Rattle.lanes.proofs.Products.{below-mul}
-use Rattle.lanes.proofs.Widths.{Fit, of-fits}
+use Rattle.layout.proofs.Products.{below-mul}
+use Rattle.layout.proofs.Widths.{of-fits}
 use Rattle.modes.specs.Entries.{firstOf, entries}
 use Rattle.modes.proofs.Steps.{entries-row, last-start, last-next}
 use Rattle.blocks.proofs.Packing.{Packing, pack-start, pack-keep, pack-store, pack-end, pack-word, pack-room}

@@ -3,8 +3,8 @@ use mathlib.Core.Path.{_≡_, refl}
 use Prim.Native.Nat.{ℕ, _+_, _-_, _≤_, _<_}
 use native.Mathlib.Omega.{arith}
 use lib.ListN.{length, length-set}
-use Rattle.lanes.specs.Rows.{at}
-use Rattle.lanes.proofs.Stores.{filled}
+use Rattle.layout.specs.Layout.{at}
+use Rattle.layout.proofs.Stores.{filled}
 use borrow.Author.Needs.{needs}
 use Rattle.blocks.proofs.rows.load_row.Statement.{statement}
 use Rattle.blocks.proofs.rows.load_row.Tie as tie

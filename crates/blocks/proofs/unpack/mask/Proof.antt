@@ -2,7 +2,7 @@
 use native.Mathlib.Omega.{arith}
 use native.Mathlib.Nat.{lt-of-lt-of-le}
 use lib.Pow.{pow-pos, pow-mono, ones-lt}
-use Rattle.lanes.proofs.Strings.{one-shl}
+use Rattle.layout.proofs.Strings.{one-shl}
 use borrow.Author.Needs.{needs}
 use Rattle.blocks.proofs.unpack.mask.Statement.{statement}
 use Rattle.blocks.proofs.unpack.mask.Tie as tie

@@ -3,10 +3,10 @@ use mathlib.Core.Path.{_≡_}
 use Prim.Native.Nat.{ℕ, _+_, _*_, _-_, _≤_, _<_}
 use native.Mathlib.Nat.{mul-le-mul}
 use native.Mathlib.Omega.{arith}
-use Rattle.lanes.specs.Rows.{at, lastLane}
+use Rattle.layout.specs.Layout.{at, payloadEntry}
+use Rattle.lanes.specs.Rows.{lastLane}
 use Rattle.lanes.specs.Sums.{before}
-use Rattle.lanes.specs.Layout.{payloadEntry}
-use Rattle.lanes.proofs.Products.{below-mul}
+use Rattle.layout.proofs.Products.{below-mul}
 use Rattle.modes.specs.Entries.{firstOf, values}
 use Rattle.modes.proofs.Steps.{values-row, last-start, last-next}
 use Rattle.blocks.specs.Calls.{unpacked}

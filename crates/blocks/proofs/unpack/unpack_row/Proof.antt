@@ -1,9 +1,8 @@
 -- Where the bits that are left reach, the row is their low bits; else the next word of each lane comes in above them.
-use mathlib.Core.Path.{_≡_}
-use Prim.Native.Nat.{ℕ, _+_, _*_, _-_, _≤_, _<_}
+use Prim.Native.Nat.{ℕ, _-_, _<_}
 use native.Mathlib.Nat.{mul-le-mul, le-of-lt}
 use native.Mathlib.Omega.{arith}
-use Rattle.lanes.specs.Rows.{at}
+use Rattle.layout.specs.Layout.{at}
 use Rattle.blocks.proofs.Unpacking.{reach-row, reach-held, more-row, more-held, more-room}
 use borrow.Author.Needs.{needs}
 use Rattle.blocks.proofs.unpack.unpack_row.Statement.{statement}

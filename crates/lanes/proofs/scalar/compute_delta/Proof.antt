@@ -1,8 +1,7 @@
 -- Each lane is the wrapping difference that the definition names; lane 0 is measured against the last lane of the row before.
-use mathlib.Core.Path.{_≡_, _∙_, ap}
-use Prim.Native.Nat.{ℕ}
+use mathlib.Core.Path.{_∙_, ap}
 use borrow.Author.Needs.{needs}
-use Rattle.lanes.specs.Rows.{at}
+use Rattle.layout.specs.Layout.{at}
 use Rattle.lanes.specs.Sums.{minus}
 use Rattle.lanes.proofs.scalar.compute_delta.Statement.{statement}
 use Rattle.lanes.proofs.scalar.compute_delta.Tie as tie

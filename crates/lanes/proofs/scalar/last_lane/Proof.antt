@@ -1,9 +1,9 @@
 -- Lane L - 1 is the last in use; a row has no number past its eighth.
 use mathlib.Core.Path.{_≡_, sym}
-use Prim.Native.Nat.{_-_, _≤_}
+use Prim.Native.Nat.{_-_}
 use borrow.Author.Needs.{needs}
 use native.Mathlib.Omega.{arith}
-use lib.ListN.{length, List·getD-eq-default}
+use lib.ListN.{List·getD-eq-default}
 use Rattle.lanes.proofs.scalar.last_lane.Statement.{statement}
 use Rattle.lanes.proofs.scalar.last_lane.Tie as tie
 

@@ -1,12 +1,12 @@
 -- The loop's invariant: `all` is the first l numbers or-ed together. Past the eighth lane there is nothing to or.
-use mathlib.Core.Path.{_≡_, refl, sym, _∙_, ap}
-use Prim.Native.Nat.{ℕ, _+_, _-_, _≤_, _<_, min}
+use mathlib.Core.Path.{_≡_, refl, _∙_, ap}
+use Prim.Native.Nat.{_-_, _≤_, min}
 use native.Mathlib.Numerals.{add-one}
 use native.Mathlib.Omega.{arith}
 use borrow.Author.Needs.{needs}
-use Rattle.lanes.specs.Rows.{at}
-use Rattle.lanes.specs.Width.{orAll}
-use Rattle.lanes.proofs.Joined.{or-used}
+use Rattle.layout.specs.Layout.{at}
+use Rattle.layout.specs.Width.{orAll}
+use Rattle.layout.proofs.Joined.{or-used}
 use Rattle.lanes.proofs.scalar.or_collapse_to_u32.Statement.{statement}
 use Rattle.lanes.proofs.scalar.or_collapse_to_u32.Tie as tie
 

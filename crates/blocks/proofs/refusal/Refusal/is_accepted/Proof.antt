@@ -1,5 +1,5 @@
 -- The number is 0 for none alone.
-use mathlib.Core.Path.{_≡_, ap}
+use mathlib.Core.Path.{ap}
 use Prim.Native.Nat.{ℕ}
 use lib.Dec.{eqb}
 use borrow.Author.Needs.{needs}

@@ -9,8 +9,8 @@ use native.Mathlib.Omega.{arith}
 use lib.Bits.{bitOr, or-zero-r}
 use lib.Count.{leadingZeros}
 use lib.ListN.{length, List·getD-eq-default}
-use Rattle.lanes.specs.Rows.{at}
-use Rattle.lanes.specs.Width.{orAll, significant}
+use Rattle.layout.specs.Layout.{at}
+use Rattle.layout.specs.Width.{orAll, significant}
 
 -- nothing past the end of a list adds to its numbers or-ed together
 or-past : (x : List ℕ) (m k : ℕ) → length x ≤ m → orAll (at x) (m + k) ≡ orAll (at x) m

@@ -1,7 +1,11 @@
 -- "Words" and "Bit layout" of document 01. L is the number of lanes, n the width, r a row, l a lane, w a word of a lane.
 use Prim.Native.Nat.{ℕ, zero, suc, _+_, _*_, _/_, _%_, _^_}
 use mathlib.Core.List.{List, [], _∷_, _++_}
-use Rattle.lanes.specs.Rows.{at}
+use lib.ListN.{getD}
+
+-- the number at place k of the list x, and 0 past its end
+abbrev pub at : List ℕ → ℕ → ℕ
+at x k = getD x k 0
 
 -- "A block has B = 32L values."
 abbrev pub blockSize : ℕ → ℕ
@@ -46,3 +50,7 @@ packed L n e = table (payloadByte L n e) (payloadSize L n)
 -- entry k of the payload bs: the n bits of row k div L in lane k mod L
 unfoldable pub payloadEntry : ℕ → ℕ → List ℕ → ℕ → ℕ
 payloadEntry L n bs k = number (byteBits L bs (k % L)) (k / L * n) n
+
+-- the word of four bytes that starts at byte i, lowest byte first
+abbrev pub wordAt : List ℕ → ℕ → ℕ
+wordAt bs i = at bs i + at bs (i + 1) * 256 + at bs (i + 2) * 65536 + at bs (i + 3) * 16777216

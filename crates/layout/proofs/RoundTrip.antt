@@ -1,18 +1,16 @@
 -- Packing and unpacking undo each other, on the definitions.
-use mathlib.Core.Path.{_≡_, refl, sym, _∙_, ap, ap₂, subst}
+use mathlib.Core.Path.{_≡_, sym, _∙_, ap}
 use mathlib.Core.List.{List, _++_}
-use Prim.Native.Nat.{ℕ, zero, suc, _+_, _*_, _-_, _/_, _%_, _^_, _≤_, _<_}
-use native.Mathlib.Nat.{mul-zero, mul-assoc, mul-comm, mod-lt, div-lt-iff-lt-mul, div-add-mod'}
+use Prim.Native.Nat.{ℕ, _+_, _*_, _-_, _/_, _%_, _^_, _≤_, _<_}
+use native.Mathlib.Nat.{mul-assoc, mul-comm, mod-lt, div-lt-iff-lt-mul, div-add-mod'}
 use native.Mathlib.Omega.{arith}
 use lib.ListN.{length, take, List·getD-append}
 use lib.Seq.{ext-getD, getD-take, length-take-le}
-use Rattle.lanes.specs.Rows.{at}
-use Rattle.lanes.specs.Layout.{bit, number, table, entryBits, byteBits, payloadByte, payloadEntry, packed}
-use Rattle.lanes.specs.Words.{wordAt}
-use Rattle.lanes.proofs.Strings.{Bits, bit-number, number-ext, number-lt}
-use Rattle.lanes.proofs.Products.{below-mul, factor-pos}
-use Rattle.lanes.proofs.Tables.{length-table, table-at}
-use Rattle.lanes.proofs.Lanes.{entry-at, entry-bits, byte-bits, row-number, byte-number, word-number, payload-at}
+use Rattle.layout.specs.Layout.{at, blockSize, payloadSize, bit, table, entryBits, byteBits, payloadByte, payloadEntry, packed, wordAt}
+use Rattle.layout.proofs.Strings.{bit-number, number-ext, number-lt}
+use Rattle.layout.proofs.Products.{below-mul, factor-pos}
+use Rattle.layout.proofs.Tables.{length-table, table-at, table-ext}
+use Rattle.layout.proofs.Lanes.{entry-at, entry-bits, byte-bits, row-number, byte-number, word-number, payload-at}
 
 -- the bits of a lane in the payload are those of its entries; bytes behind the payload do not matter
 pub bits-packed : (L n : ℕ) (en : ℕ → ℕ) (rest : List ℕ) (l p : ℕ) → l < L → p < 32 * n → byteBits L (packed L n en ++ rest) l p ≡ entryBits L n en l p
@@ -86,3 +84,21 @@ bit-of-entry L n bs r l j bytes h k =
     let e : p ≡ 32 * (p / 32) + p % 32 = omega arith in
     ap (λ (t : ℕ). bit t j) (entry-at L n bs r l h) ∙ bit-number (byteBits L bs l) (byte-bits L bs l) (r * n) n j k
     ∙ ap (byteBits L bs l) e ∙ sym (bit-of-word L bs l (p / 32) (p % 32) bytes (omega arith))
+
+-- a payload depends on its block's own entries alone
+pub packed-ext : (L n : ℕ) (d e : ℕ → ℕ) → ((k : ℕ) → k < blockSize L → d k ≡ e k) → packed L n d ≡ packed L n e
+unfolding packed payloadByte entryBits
+packed-ext L n d e same = table-ext (payloadByte L n d) (payloadByte L n e) (payloadSize L n) here
+  where
+    here : (i : ℕ) → i < payloadSize L n → payloadByte L n d i ≡ payloadByte L n e i
+    here i h =
+        let q : ℕ = i / 4 in
+        let k : q < n * L = omega (arith, mul-assoc 4 L n, mul-comm L n) in
+        let lanes : 0 < L = factor-pos n L q k in
+        let wide : 0 < n = factor-pos (4 * L) n i h in
+        let w : q / L < n = div-lt-iff-lt-mul lanes .1 k in
+        number-ext (entryBits L n d (q % L)) (entryBits L n e (q % L)) (32 * (q / L) + 8 * (i % 4)) (32 * (q / L) + 8 * (i % 4)) 8
+        (λ j g.
+        let p : ℕ = 32 * (q / L) + 8 * (i % 4) + j in
+        let row : p / n < 32 = div-lt-iff-lt-mul wide .1 (omega arith) in
+        ap (λ (t : ℕ). bit t (p % n)) (same (p / n * L + q % L) (omega (arith, below-mul L row, mod-lt q lanes))))

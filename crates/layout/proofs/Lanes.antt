@@ -1,14 +1,12 @@
 -- Laws of a lane: its numbers, from the side of the entries and from the side of the bytes.
-use mathlib.Core.Path.{_≡_, refl, sym, _∙_, ap}
+use mathlib.Core.Path.{_≡_, sym, _∙_, ap}
 use mathlib.Core.List.{List}
-use Prim.Native.Nat.{ℕ, zero, suc, _+_, _*_, _-_, _/_, _%_, _^_, _≤_, _<_}
+use Prim.Native.Nat.{ℕ, _+_, _*_, _-_, _/_, _%_, _^_, _<_}
 use native.Mathlib.Nat.{mod-eq-of-lt, add-zero, add-assoc}
 use native.Mathlib.Omega.{arith}
 use lib.Arith.{digits-div, digits-mod}
-use Rattle.lanes.specs.Rows.{at}
-use Rattle.lanes.specs.Layout.{bit, number, entryBits, byteBits, payloadByte, payloadEntry}
-use Rattle.lanes.specs.Words.{wordAt}
-use Rattle.lanes.proofs.Strings.{Bits, bit-lt, number-split, number-of}
+use Rattle.layout.specs.Layout.{at, bit, number, entryBits, byteBits, payloadByte, payloadEntry, wordAt}
+use Rattle.layout.proofs.Strings.{Bits, bit-lt, number-split, number-of}
 
 pub entry-bits : (L n : ℕ) (en : ℕ → ℕ) (l : ℕ) → Bits (entryBits L n en l)
 unfolding entryBits

@@ -7,8 +7,7 @@ use native.Mathlib.Omega.{arith}
 use native.Mathlib.Decide.{decLt}
 use lib.ListN.{length, drop, length-append, length-drop, List·getD-append}
 use lib.Seq.{ext-getD, getD-append-add, getD-drop, getD-at}
-use Rattle.lanes.specs.Rows.{at}
-use Rattle.lanes.specs.Layout.{table, packed, payloadByte, payloadSize}
+use Rattle.layout.specs.Layout.{at, table, packed, payloadByte, payloadSize}
 
 pub length-table : (f : ℕ → ℕ) (m : ℕ) → length (table f m) ≡ m
 unfolding table

@@ -7,7 +7,7 @@ use native.Mathlib.Omega.{arith}
 use native.Mathlib.Decide.{ℕ-discrete}
 use lib.ListN.{length, set}
 use lib.Seq.{getD-set-same, getD-set-other}
-use Rattle.lanes.specs.Rows.{at}
+use Rattle.layout.specs.Layout.{at}
 
 -- what holds of each element below i, and of what is stored at i, holds of each below i + 1
 pub filled : (f : ℕ → ℕ) (x : List ℕ) (i v : ℕ) → i < length x → ((k : ℕ) → k < i → at x k ≡ f k) → v ≡ f i

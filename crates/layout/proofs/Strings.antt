@@ -1,13 +1,13 @@
 -- Laws of a string of bits and its numbers.
-use mathlib.Core.Path.{_≡_, refl, sym, _∙_, ap, subst}
+use mathlib.Core.Path.{_≡_, refl, sym, _∙_, ap}
 use Prim.Native.Nat.{ℕ, zero, suc, _+_, _*_, _-_, _/_, _%_, _^_, _≤_, _<_}
-use native.Mathlib.Nat.{add-zero, zero-add, add-suc, add-assoc, add-comm, mul-one, mul-assoc, mul-comm, add-mul, zero-mul, pow-zero, pow-succ', mod-one, mod-lt, div-one, mul-pos, le-refl, mul-mod-left, one-mul}
+use native.Mathlib.Nat.{add-zero, zero-add, add-suc, add-assoc, mul-one, mul-assoc, mul-comm, add-mul, zero-mul, pow-succ', mod-one, le-refl, mul-mod-left, one-mul}
 use native.Mathlib.Omega.{arith}
 use native.Mathlib.Numerals.{one-add}
-use lib.Pow.{pow-pos, pow-add, high, low, mod-pow-add, shl-lt, shl-exact, shl-shr, split}
+use lib.Pow.{pow-add, high, low, mod-pow-add, shl-exact, shl-shr}
 use lib.Arith.{digits-lt}
-use lib.Bits.{bitOr, bitAnd, or-shifted-r, and-mask}
-use Rattle.lanes.specs.Layout.{bit, number}
+use lib.Bits.{bitOr, or-shifted-r}
+use Rattle.layout.specs.Layout.{bit, number}
 
 -- every bit is 0 or 1
 abbrev pub Bits : (ℕ → ℕ) → Type 0

@@ -1,10 +1,9 @@
 -- Widths: what fits, the least that fits, and that or-ing finds it.
-use mathlib.Core.Path.{_≡_, refl, sym, _∙_, ap}
+use mathlib.Core.Path.{_≡_, refl, sym, _∙_}
 use mathlib.Core.Bool.{Bool, true, false, _&&_, cond}
 use mathlib.Core.Logic.{_↔_}
 use Prim.Native.Nat.{ℕ, zero, suc, _+_, _*_, _-_, _/_, _%_, _^_, _≤_, _<_}
 use native.Mathlib.Nat.{lt-of-le-of-lt, lt-of-lt-of-le, div-add-mod', mod-lt, div-lt-iff-lt-mul, add-zero, add-suc, suc-add}
-use native.Mathlib.Numerals.{add-one}
 use native.Mathlib.Omega.{arith}
 use native.Mathlib.Decide.{decLt, ℕ-discrete}
 use borrow.Author.Tests.{lt-ltb, ltb-true}
@@ -12,9 +11,8 @@ use lib.Dec.{ltb}
 use lib.Pow.{pow-pos, pow-mono}
 use lib.Bits.{bitOr, or-lt, or-comm, or-add-and, and-le-r}
 use lib.Count.{leadingZeros, leading-top}
-use Rattle.lanes.specs.Width.{fits, leastFrom, leastWidth, significant, orAll}
-use Rattle.lanes.proofs.Products.{below-mul, factor-pos}
-use Rattle.lanes.proofs.Joined.{significant-of}
+use Rattle.layout.specs.Width.{fits, leastFrom, leastWidth, significant, orAll}
+use Rattle.layout.proofs.Products.{below-mul, factor-pos}
 
 -- e 0, .., e (m - 1) are below 2 to the power n
 abbrev pub Fit : (ℕ → ℕ) → ℕ → ℕ → Type 0

@@ -1,0 +1,38 @@
+-- The starred cases of "Numbers at the edges": what the definitions give, and what document 01 says.
+use mathlib.Core.List.{List, [], _∷_, _++_}
+use Prim.Native.Nat.{ℕ}
+use lib.ListN.{set, replicate}
+use Rattle.layout.specs.Layout.{at, table, packed}
+use Rattle.modes.specs.declared.Initial.the-variants.{None, Number}
+use Rattle.modes.specs.declared.Mode.the-variants.{Plain, Sorted, Strict}
+use Rattle.modes.specs.Entries.{entries}
+use Rattle.blocks.specs.Calls.{unpacked}
+
+-- a case: what the definitions give, and what it is
+pub record Case : Type 0 where
+  pub given : List ℕ
+  pub said : List ℕ
+
+-- count numbers, all 0 but for number k, which is v
+abbrev only : ℕ → ℕ → ℕ → List ℕ
+only count k v = set (replicate count 0) k v
+
+unfoldable pub starred : List Case
+starred =
+    -- 1. "L=1, plain, n=2, entries 1, 2, 3, then 0: 8 bytes, the first 39 hex."
+    record { given = packed 1 2 (entries Plain (at (1 ∷ 2 ∷ 3 ∷ []))); said = 0x39 ∷ replicate 7 0 }
+    -- 2. "L=4, plain, n=1: only entry 1 is 1: byte 4 is 01. Only entry 4 is 1: byte 0 is 02."
+    ∷ record { given = packed 4 1 (entries Plain (at (only 128 1 1))); said = only 16 4 0x01 }
+    ∷ record { given = packed 4 1 (entries Plain (at (only 128 4 1))); said = only 16 0 0x02 }
+    -- 3. "L=1, plain, n=31, only entry 1 is 3: byte 3 is 80 hex, byte 4 is 01, of 124."
+    ∷ record { given = packed 1 31 (entries Plain (at (only 32 1 3))); said = set (only 124 3 0x80) 4 0x01 }
+    -- 4. "L=8, plain, n=32, only entry 9 is 01020304 hex: bytes 36 to 39 are 04 03 02 01."
+    ∷ record { given = packed 8 32 (entries Plain (at (only 256 9 0x01020304))); said = replicate 36 0 ++ (0x04 ∷ 0x03 ∷ 0x02 ∷ 0x01 ∷ replicate 984 0) }
+    -- 5. "Strict, none, value 0: entry 0. Sorted, first 5, value 3: entry 4,294,967,294."
+    ∷ record { given = entries (Strict None) (at (0 ∷ [])) 0 ∷ []; said = 0 ∷ [] }
+    ∷ record { given = entries (Sorted 5) (at (3 ∷ [])) 0 ∷ []; said = 4294967294 ∷ [] }
+    -- 6. "Strict, first 4,294,967,294, n=0: the block is 4,294,967,295, 0, 1, 2 and on."
+    ∷ record { given = unpacked 1 (Strict (Number 4294967294)) [] 0; said = 4294967295 ∷ table (λ k. k) 31 }
+    ∷ record { given = unpacked 4 (Strict (Number 4294967294)) [] 0; said = 4294967295 ∷ table (λ k. k) 127 }
+    ∷ record { given = unpacked 8 (Strict (Number 4294967294)) [] 0; said = 4294967295 ∷ table (λ k. k) 255 }
+    ∷ []

@@ -20,7 +20,7 @@ isLanes L = eqb L 1 || eqb L 4 || eqb L 8
 
 -- "Each returns its number, length 0"
 abbrev pub answer : Refusal → ℕ → Answer
-answer k length = record { refusal = k; length = cond (accepted k) length 0 }
+answer k size = record { refusal = k; length = cond (accepted k) size 0 }
 
 -- "Memory past those is unchanged": new at the front, and the rest as before
 abbrev pub over : List ℕ → List ℕ → List ℕ

@@ -6,23 +6,23 @@ use Rattle.blocks.specs.declared.refusal.Refusal.{Refusal}
 use Rattle.blocks.specs.declared.refusal.Refusal.the-variants.{Accepted, BadLanes, BadWidth, BadBlock, NoRoom, CutShort, TooWide, TooMany, OutOfOrder, NotLeast, BadFill, LeftOver, BadHeader}
 
 -- the number of each refusal; 0 stands for none
-abbrev pub number : Refusal → ℕ
-number Accepted = 0
-number BadLanes = 1
-number BadWidth = 2
-number BadBlock = 3
-number NoRoom = 4
-number CutShort = 5
-number TooWide = 6
-number TooMany = 7
-number OutOfOrder = 8
-number NotLeast = 9
-number BadFill = 10
-number LeftOver = 11
-number BadHeader = 12
+abbrev pub numberOf : Refusal → ℕ
+numberOf Accepted = 0
+numberOf BadLanes = 1
+numberOf BadWidth = 2
+numberOf BadBlock = 3
+numberOf NoRoom = 4
+numberOf CutShort = 5
+numberOf TooWide = 6
+numberOf TooMany = 7
+numberOf OutOfOrder = 8
+numberOf NotLeast = 9
+numberOf BadFill = 10
+numberOf LeftOver = 11
+numberOf BadHeader = 12
 
 abbrev pub accepted : Refusal → Bool
-accepted k = eqb (number k) 0
+accepted k = eqb (numberOf k) 0
 
 -- "The first that applies in this order is given, and none otherwise": k where the test holds, and else what follows
 abbrev pub refuse : Bool → Refusal → Refusal → Refusal

@@ -1,6 +1,6 @@
 // The numbers of refusal of document 01, by their names.
 ghost use mathlib.Core.Path.{_≡_};
-ghost use Rattle.blocks.specs.Refusals.{number, accepted};
+ghost use Rattle.blocks.specs.Refusals.{numberOf, accepted};
 
 pub enum Refusal {
     // 0: nothing is refused
@@ -40,7 +40,7 @@ impl Refusal {
 
     // The number that document 01 gives it.
     pub fn number(self) -> u32
-        ensures { λ r. ⌜ r ≡ number self ⌝ }
+        ensures { λ r. ⌜ r ≡ numberOf self ⌝ }
     {
         match self {
             Refusal::Accepted => 0,

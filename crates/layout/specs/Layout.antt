@@ -51,6 +51,9 @@ packed L n e = table (payloadByte L n e) (payloadSize L n)
 unfoldable pub payloadEntry : ℕ → ℕ → List ℕ → ℕ → ℕ
 payloadEntry L n bs k = number (byteBits L bs (k % L)) (k / L * n) n
 
+-- These four say document 01's sentence from both sides; proofs/RoundTrip has the sentence itself as a theorem (bit-of-entry):
+-- bit j of entry rL + l is bit (rn + j) mod 32 of the word at byte 4(((rn + j) div 32)L + l).
+
 -- the word of four bytes that starts at byte i, lowest byte first
 abbrev pub wordAt : List ℕ → ℕ → ℕ
 wordAt bs i = at bs i + at bs (i + 1) * 256 + at bs (i + 2) * 65536 + at bs (i + 3) * 16777216

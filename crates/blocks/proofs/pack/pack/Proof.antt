@@ -63,7 +63,7 @@ mul-store-words c = omega (arith, room (c .before), c .before .before .before .b
 
 store-words-requires : tie.Need-store-words-requires Inv-loop μ-loop
 store-words-requires c κs =
-    (c .before .before .before .before .before .before .before .before .before .before .before .before .before .pre .0 .1, room (c .before))
+    (omega (arith, c .before .before .before .before .before .before .before .before .before .before .before .before .before .pre .0 .1), omega (arith, room (c .before)))
 
 add-word : tie.Need-add-word Inv-loop μ-loop
 add-word c =

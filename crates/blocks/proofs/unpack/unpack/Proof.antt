@@ -38,7 +38,7 @@ loop-holds c =
 unpack-row-requires : tie.Need-unpack-row-requires Inv-loop μ-loop
 unpack-row-requires c κs =
     let p = c .before .before .before .before .before .before .before .pre in
-    ((p .1, p .2, c .loop-test .taken, p .3), c .before .loop .inv .2)
+    ((p .1, p .2, omega arith, p .3), c .before .loop .inv .2)
 
 mul-store-row : tie.Need-mul-store-row Inv-loop μ-loop
 mul-store-row c =
@@ -50,7 +50,7 @@ store-row-requires c κs =
     let i = c .before .before .before .before .before in
     let o = i .before in
     let a = o .before .before .before .before .before .before in
-    (a .pre .1, omega (arith, a .pre .4, o .loop .inv .3 .size, below-mul (a .args .lanes) (i .loop-test .taken)))
+    (omega (arith, a .pre .1), omega (arith, a .pre .4, o .loop .inv .3 .size, below-mul (a .args .lanes) (i .loop-test .taken)))
 
 loop-again : tie.Need-loop-again Inv-loop μ-loop
 loop-again c =

@@ -1,8 +1,9 @@
 -- Where the bits that are left reach, the row is their low bits; else the next word of each lane comes in above them.
-use Prim.Native.Nat.{ℕ, _-_, _<_}
+use Prim.Native.Nat.{ℕ, _+_, _*_, _/_, _≤_, _<_}
 use native.Mathlib.Nat.{mul-le-mul, le-of-lt}
 use native.Mathlib.Omega.{arith}
-use Rattle.layout.specs.Layout.{at}
+use Rattle.layout.specs.Layout.{at, payloadSize}
+use Rattle.blocks.specs.kernel.Registers.{bitsLeft}
 use Rattle.blocks.proofs.Unpacking.{reach-row, reach-held, more-row, more-held, more-room}
 use borrow.Author.Needs.{needs}
 use Rattle.blocks.proofs.unpack.unpack_row.Statement.{statement}
@@ -17,29 +18,35 @@ add-word c = omega (arith, mul-le-mul (le-of-lt (c .before .before .before .pre 
 mul-left : tie.Need-mul-left
 mul-left c = omega (arith, mul-le-mul (le-of-lt (c .before .before .before .pre .0 .2)) (c .before .before .before .pre .0 .1))
 
+short : (c : tie.Else1) → bitsLeft (c .before .before .before .before .args .width) (c .before .before .before .before .args .row) < c .before .before .before .before .args .width
+short c = omega (arith, c .if1 .left)
+
+-- a word that is read lies in the payload
+room : (c : tie.Else1) →
+    let a = c .before .before .before .before .args in
+    let w : ℕ = (a .row * a .width + 31) / 32 in
+    (w < a .width) × (4 * (w * a .lanes + a .lanes) ≤ payloadSize (a .lanes) (a .width))
+room c =
+    let a = c .before .before .before .before in
+    more-room (a .args .lanes) (a .args .width) (a .args .row) (a .pre .0 .2) (short c)
+
 returns : tie.Need-returns
 returns c =
     let e = c .before .before .before in
     let a = e .before .before .before in
-    let t = c .before .before .if1 .taken in (
+    let t : a .args .width ≤ bitsLeft (a .args .width) (a .args .row) = omega (arith, c .before .before .if1 .taken) in (
       reach-row (a .pre .1) (a .pre .0 .0) t (e .before .mask .ensures) (e .set1 .ensures) (c .before .op-and .ensures),
       reach-held (a .pre .1) (a .pre .0 .0) t (c .right-shift-32 .ensures),
     )
 
 cast-load-words : tie.Need-cast-load-words
-cast-load-words c =
-    let a = c .before .before .before .before in
-    omega (arith, more-room (a .args .lanes) (a .args .width) (a .args .row) (a .pre .0 .2) (c .if1 .left))
+cast-load-words c = omega (arith, room c)
 
 mul-load-words : tie.Need-mul-load-words
-mul-load-words c =
-    let a = c .before .before .before .before in
-    omega (arith, more-room (a .args .lanes) (a .args .width) (a .args .row) (a .pre .0 .2) (c .if1 .left))
+mul-load-words c = omega (arith, room c)
 
 load-words-requires : tie.Need-load-words-requires
-load-words-requires c κs =
-    let a = c .before .before .before .before in
-    omega (arith, more-room (a .args .lanes) (a .args .width) (a .args .row) (a .pre .0 .2) (c .if1 .left))
+load-words-requires c κs = omega (arith, room c)
 
 returns-2 : tie.Need-returns-2
 returns-2 c =
@@ -50,9 +57,9 @@ returns-2 c =
     let y = c .before .before .before .before .load-words in
     let s = c .before .before .before .left-shift-32 in
     let j = c .before .before .op-or in (
-      more-row (a .pre .1) (a .pre .0 .0) (b .if1 .left) (a .pre .0 .1) bytes (y .result) (y .ensures)
+      more-row (a .pre .1) (a .pre .0 .0) (short b) (a .pre .0 .1) bytes (y .result) (y .ensures)
           (s .result) (j .result) (e .before .mask .ensures) (e .set1 .ensures) (s .ensures) (j .ensures) (c .before .op-and2 .ensures),
-      more-held (a .pre .1) (a .pre .0 .0) (b .if1 .left) (a .pre .0 .1) bytes (y .result) (y .ensures) (c .right-shift-322 .ensures),
+      more-held (a .pre .1) (a .pre .0 .0) (short b) (a .pre .0 .1) bytes (y .result) (y .ensures) (c .right-shift-322 .ensures),
     )
 
 pub unpack-row-spec : {M : Type 1} → statement M

@@ -2,7 +2,7 @@
 use mathlib.Core.Path.{_≡_, sym, _∙_, ap}
 use mathlib.Core.List.{List}
 use Prim.Native.Nat.{ℕ, _+_, _*_, _-_, _/_, _%_, _^_, _<_}
-use native.Mathlib.Nat.{mod-eq-of-lt, add-zero, add-assoc}
+use native.Mathlib.Nat.{mod-eq-of-lt, mul-comm, add-zero, add-assoc}
 use native.Mathlib.Omega.{arith}
 use lib.Arith.{digits-div, digits-mod}
 use Rattle.layout.specs.Layout.{at, bit, number, entryBits, byteBits, payloadByte, payloadEntry, wordAt}
@@ -66,3 +66,14 @@ payload-at L n en w l b h k =
 pub entry-at : (L n : ℕ) (bs : List ℕ) (r l : ℕ) → l < L → payloadEntry L n bs (r * L + l) ≡ number (byteBits L bs l) (r * n) n
 unfolding payloadEntry
 entry-at L n bs r l h = rw (digits-div r h, digits-mod r h)
+
+-- Width 32 is no case of its own: there each row is a whole word.
+
+-- word r of lane l is entry rL + l, in packing
+pub word-32 : (L : ℕ) (en : ℕ → ℕ) (l r : ℕ) → en (r * L + l) < 2 ^ 32 → number (entryBits L 32 en l) (32 * r) 32 ≡ en (r * L + l)
+word-32 L en l r fits = rw mul-comm (row-number L 32 en l r fits)
+
+-- and in unpacking
+pub entry-32 : (L : ℕ) (bs : List ℕ) (l r : ℕ) → ((i : ℕ) → at bs i < 256) → l < L → payloadEntry L 32 bs (r * L + l) ≡ wordAt bs (4 * (r * L + l))
+entry-32 L bs l r bytes h =
+    entry-at L 32 bs r l h ∙ ap (λ (s : ℕ). number (byteBits L bs l) s 32) (mul-comm r 32) ∙ word-number L bs l r bytes

@@ -50,7 +50,8 @@ store-row-requires c κs =
     let i = c .before .before .before .before .before in
     let o = i .before in
     let a = o .before .before .before .before .before .before in
-    (omega (arith, a .pre .1), omega (arith, a .pre .4, o .loop .inv .3 .size, below-mul (a .args .lanes) (i .loop-test .taken)))
+    let last : o .loop .row < 32 = omega arith in
+    (omega (arith, a .pre .1), omega (arith, a .pre .4, o .loop .inv .3 .size, below-mul (a .args .lanes) last))
 
 loop-again : tie.Need-loop-again Inv-loop μ-loop
 loop-again c =

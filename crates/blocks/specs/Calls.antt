@@ -18,7 +18,7 @@ use Rattle.blocks.specs.Refusals.{accepted, refuse}
 unfoldable pub isLanes : ℕ → Bool
 isLanes L = eqb L 1 || eqb L 4 || eqb L 8
 
--- "Each returns its number, length 0"
+-- the size where it is accepted, and else "Each returns its number, length 0"
 abbrev pub answer : Refusal → ℕ → Answer
 answer k size = record { refusal = k; length = cond (accepted k) size 0 }
 
@@ -37,10 +37,11 @@ sizeRefusal L n =
     (refuse (ltb 32 n) BadWidth
     Accepted)
 
+-- "A payload has 4Ln bytes."
 abbrev pub sizeAnswer : ℕ → ℕ → Answer
 sizeAnswer L n = answer (sizeRefusal L n) (payloadSize L n)
 
--- "Pack: 1, 2, 3, 4, 6", for the values vs and room for as many bytes
+-- "Pack: 1, 2, 3, 4, 6", for the values vs and an output of `room` bytes
 abbrev pub packRefusal : ℕ → Mode → List ℕ → ℕ → ℕ → Refusal
 packRefusal L m vs room n =
     refuse (not (isLanes L)) BadLanes
@@ -50,13 +51,15 @@ packRefusal L m vs room n =
     (refuse (not (fits (entries m (at vs)) (blockSize L) n)) TooWide
     Accepted))))
 
+-- "Pack takes exactly B values and at least 4Ln bytes of output, writes the first 4Ln and answers 4Ln."
 abbrev pub packAnswer : ℕ → Mode → List ℕ → ℕ → ℕ → Answer
 packAnswer L m vs room n = answer (packRefusal L m vs room n) (payloadSize L n)
 
+-- "At width 0 packing writes nothing": the payload is empty then
 abbrev pub packOutput : ℕ → Mode → List ℕ → List ℕ → ℕ → List ℕ
 packOutput L m vs before n = written (packRefusal L m vs (length before) n) (packed L n (entries m (at vs))) before
 
--- "Unpack: 1, 2, 4, 5", for as many bytes and room for as many values
+-- "Unpack: 1, 2, 4, 5", for `size` bytes and an output of `room` values
 abbrev pub unpackRefusal : ℕ → ℕ → ℕ → ℕ → Refusal
 unpackRefusal L size room n =
     refuse (not (isLanes L)) BadLanes
@@ -65,6 +68,7 @@ unpackRefusal L size room n =
     (refuse (ltb size (payloadSize L n)) CutShort
     Accepted)))
 
+-- "Unpack takes at least 4Ln bytes and room for at least B values, writes the first B and answers 4Ln."
 abbrev pub unpackAnswer : ℕ → ℕ → ℕ → ℕ → Answer
 unpackAnswer L size room n = answer (unpackRefusal L size room n) (payloadSize L n)
 
@@ -72,6 +76,7 @@ unpackAnswer L size room n = answer (unpackRefusal L size room n) (payloadSize L
 unfoldable pub unpacked : ℕ → Mode → List ℕ → ℕ → List ℕ
 unpacked L m bs n = table (values m (payloadEntry L n bs)) (blockSize L)
 
+-- ".. and unpacking still writes B values" at width 0
 abbrev pub unpackOutput : ℕ → Mode → List ℕ → List ℕ → ℕ → List ℕ
 unpackOutput L m bs before n = written (unpackRefusal L (length bs) (length before) n) (unpacked L m bs n) before
 

@@ -8,7 +8,7 @@ use Rattle.modes.specs.declared.Mode.the-variants.{Plain, Sorted, Strict}
 use Rattle.modes.specs.Entries.{entries}
 use Rattle.blocks.specs.Calls.{unpacked}
 
--- a case: what the definitions give, and what it is
+-- a case: what the definitions give, and what document 01 says
 pub record Case : Type 0 where
   pub given : List ℕ
   pub said : List ℕ

@@ -18,7 +18,7 @@ use Rattle.c_interface.specs.declared.CAnswer.{CAnswer}
 abbrev pub isKind : ℕ → Bool
 isKind kind = ltb kind 4
 
--- kind 0 plain, 1 sorted, 2 strict with none, 3 strict with a number; `first` is ignored for 0 and 2
+-- kind 0 plain, 1 sorted, 2 strict with none, 3 strict with a number; `first` is ignored for 0 and 2. (It is asked for no other.)
 abbrev pub modeOf : ℕ → ℕ → Mode
 modeOf zero first = Plain
 modeOf (suc zero) first = Sorted first

@@ -30,7 +30,7 @@ number b s zero = 0
 number b s (suc m) = b (s + m) * 2 ^ m + number b s m
 
 -- "Entry k is in lane k mod L and row k div L .. Bit j of row r is bit p = rn + j of its lane."
--- Lane l of the entries e 0, e 1, .., as a string of bits: bit p is bit p mod n of row p div n.
+-- Lane l of the entries e 0, e 1, .., as a string of bits: bit p is bit p mod n of row p div n. (At n = 0 it has no bits.)
 unfoldable pub entryBits : ℕ → ℕ → (ℕ → ℕ) → ℕ → ℕ → ℕ
 entryBits L n e l p = bit (e (p / n * L + l)) (p % n)
 
@@ -51,7 +51,8 @@ packed L n e = table (payloadByte L n e) (payloadSize L n)
 unfoldable pub payloadEntry : ℕ → ℕ → List ℕ → ℕ → ℕ
 payloadEntry L n bs k = number (byteBits L bs (k % L)) (k / L * n) n
 
--- These four say document 01's sentence from both sides; proofs/RoundTrip has the sentence itself as a theorem (bit-of-entry):
+-- So entryBits and payloadByte say the layout from the entries' side, byteBits and payloadEntry from the bytes'. The sentence
+-- itself is a theorem (proofs/RoundTrip, bit-of-entry), over words as the next definition has them:
 -- bit j of entry rL + l is bit (rn + j) mod 32 of the word at byte 4(((rn + j) div 32)L + l).
 
 -- the word of four bytes that starts at byte i, lowest byte first

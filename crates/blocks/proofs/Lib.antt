@@ -1,4 +1,5 @@
 pub mod Places
+pub mod Parts
 pub mod Packing
 pub mod Unpacking
 pub mod Tests

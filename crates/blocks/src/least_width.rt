@@ -22,7 +22,8 @@ fn accumulate(lanes: usize, mode: Mode, values: &[u32]) -> [u32; 8]
     let mut previous = set1(initial_value(mode));
     let mut accumulator = set1(0);
     for row in 0..32 {
-        let current = load_row(values, row * lanes, lanes);
+        let place = row * lanes;
+        let current = load_row(&values[place..], lanes);
         let joined = op_or(accumulator, transform(mode, current, previous, lanes));
         previous = current;
         accumulator = joined;

@@ -29,13 +29,15 @@ pub(crate) fn pack(lanes: usize, mode: Mode, values: &[u32], out: &mut [u8], wid
     let mut inner_cursor: u32 = 0;
     let mut row: usize = 0;
     while row < 32 {
-        let current = load_row(values, row * lanes, lanes);
+        let place = row * lanes;
+        let current = load_row(&values[place..], lanes);
         let in_register = transform(mode, current, previous, lanes);
         previous = current;
         row += 1;
         let joined = op_or(out_register, left_shift_32(in_register, inner_cursor));
         if 32 <= inner_cursor + width {
-            store_words(&mut out[..], word * lanes, lanes, joined);
+            let start = 4 * (word * lanes);
+            store_words(&mut out[start..], lanes, joined);
             let rest = right_shift_32(in_register, 32 - inner_cursor);
             out_register = rest;
             word += 1;

@@ -46,7 +46,8 @@ fn unpack_row(lanes: usize, bytes: &[u8], width: u32, row: u32, held: [u32; 8]) 
         let rest = right_shift_32(held, width);
         return Unpacked { entries, rest };
     }
-    let in_register = load_words(bytes, word as usize * lanes, lanes);
+    let start = 4 * (word as usize * lanes);
+    let in_register = load_words(&bytes[start..], lanes);
     let entries = op_and(op_or(held, left_shift_32(in_register, left)), ones);
     let rest = right_shift_32(in_register, width - left);
     Unpacked { entries, rest }
@@ -65,7 +66,8 @@ pub(crate) fn unpack(lanes: usize, mode: Mode, bytes: &[u8], out: &mut [u32], wi
         let entries = unpacked.entries;
         let rest = unpacked.rest;
         let values = process(mode, current, entries, lanes);
-        store_row(&mut out[..], row as usize * lanes, lanes, values);
+        let place = row as usize * lanes;
+        store_row(&mut out[place..], lanes, values);
         current = values;
         held = rest;
         row += 1;

@@ -1,4 +1,5 @@
-// Rows of words in a payload: "Word w of lane l starts at byte 4(wL + l), lowest byte first" (the Rust's pointers to `DataType`).
+// Rows of words: "Word w of lane l starts at byte 4(wL + l), lowest byte first." The caller lends the part that begins at word w of
+// lane 0 (the Rust's pointers to `DataType`).
 ghost use mathlib.Core.Path.{_≡_};
 ghost use Prim.Native.Nat.{ℕ, _+_, _*_, _≤_, _<_};
 ghost use lib.ListN.{length};
@@ -34,24 +35,24 @@ fn store_word(out: &mut [u8], at: usize, v: u32)
     out[at + 3] = (v / 16777216 % 256) as u8;
 }
 
-// The row of the words from word `base` on, one for each lane in use.
-pub(crate) fn load_words(bytes: &[u8], base: usize, lanes: usize) -> [u32; 8]
-    requires { ⌜ (lanes ≤ 8) × (4 * (base + lanes) ≤ length (now bytes)) ⌝ }
-    ensures { λ r. ⌜ ((l : ℕ) → l < lanes → at r l ≡ wordAt (now (bytes .entry)) (4 * (base + l))) ⌝ }
+// The row of the words that the bytes start with, one for each lane in use.
+pub(crate) fn load_words(bytes: &[u8], lanes: usize) -> [u32; 8]
+    requires { ⌜ (lanes ≤ 8) × (4 * lanes ≤ length (now bytes)) ⌝ }
+    ensures { λ r. ⌜ ((l : ℕ) → l < lanes → at r l ≡ wordAt (now (bytes .entry)) (4 * l)) ⌝ }
 {
     let mut row = [0u32; 8];
     for l in 0..lanes {
-        row[l] = load_word(bytes, 4 * (base + l));
+        row[l] = load_word(bytes, 4 * l);
     }
     row
 }
 
-// The row as the words from word `base` on.
-pub(crate) fn store_words(out: &mut [u8], base: usize, lanes: usize, row: [u32; 8])
-    requires { ⌜ (lanes ≤ 8) × (4 * (base + lanes) ≤ length (now out)) ⌝ }
-    ensures { λ r. ⌜ WordsStored base lanes row (now (out .entry)) (now (out .exit)) ⌝ }
+// The row as the words that `out` starts with.
+pub(crate) fn store_words(out: &mut [u8], lanes: usize, row: [u32; 8])
+    requires { ⌜ (lanes ≤ 8) × (4 * lanes ≤ length (now out)) ⌝ }
+    ensures { λ r. ⌜ WordsStored 0 lanes row (now (out .entry)) (now (out .exit)) ⌝ }
 {
     for l in 0..lanes {
-        store_word(&mut out[..], 4 * (base + l), row[l]);
+        store_word(&mut out[..], 4 * l, row[l]);
     }
 }

@@ -1,6 +1,7 @@
 // The block calls for C and Rust. An enum cannot cross, so the mode crosses as two numbers and the refusal as its number.
 use blocks::Answer;
 use blocks::Width;
+use blocks::refusal::Refusal;
 use modes::Initial;
 use modes::Mode;
 ghost use mathlib.Core.Path.{_≡_};
@@ -55,8 +56,9 @@ fn cross_width(width: Width) -> CAnswer
 fn bad_kind() -> CAnswer
     ensures { λ r. ⌜ r ≡ badKind ⌝ }
 {
+    let refusal = Refusal::BadHeader;
     CAnswer {
-        number: 12,
+        number: refusal.number(),
         length: 0,
     }
 }

@@ -3,6 +3,7 @@ use mathlib.Core.Path.{_≡_}
 use Prim.Native.Nat.{ℕ, _+_, _*_, _-_, _≤_, _<_}
 use native.Mathlib.Nat.{mul-le-mul}
 use native.Mathlib.Omega.{arith}
+use lib.ListN.{length}
 use Rattle.layout.specs.Layout.{at, payloadEntry}
 use Rattle.lanes.specs.Rows.{lastLane}
 use Rattle.lanes.specs.Sums.{before}
@@ -11,6 +12,7 @@ use Rattle.modes.specs.Entries.{firstOf, values}
 use Rattle.modes.proofs.Steps.{values-row, last-start, last-next}
 use Rattle.blocks.specs.Calls.{unpacked}
 use Rattle.blocks.specs.kernel.Registers.{Held}
+use Rattle.blocks.proofs.Parts.{part-length, row-back}
 use Rattle.blocks.proofs.Unpacking.{Unpacking, held-none, unpack-start, unpack-more, unpack-end}
 use borrow.Author.Needs.{needs}
 use Rattle.blocks.proofs.unpack.unpack.Statement.{statement}
@@ -40,18 +42,31 @@ unpack-row-requires c κs =
     let p = c .before .before .before .before .before .before .before .pre in
     ((p .1, p .2, omega arith, p .3), c .before .loop .inv .2)
 
+-- the row lies in the output
+inside : (c : tie.After-process Inv-loop μ-loop) → c .before .before .before .before .before .loop .row * c .before .before .before .before .before .before .before .before .before .before .before .args .lanes + c .before .before .before .before .before .before .before .before .before .before .before .args .lanes ≤ length (c .before .before .before .before .before .loop .out)
+inside c =
+    let o = c .before .before .before .before .before in
+    let a = c .before .before .before .before .before .before .before .before .before .before .before in
+    let last : o .loop .row < 32 = omega (arith, c .before .before .before .before .loop-test .taken, a .pre .2) in
+    omega (arith, a .pre .4, o .loop .inv .3 .size, below-mul (a .args .lanes) last)
+
+mul-place : tie.Need-mul-place Inv-loop μ-loop
+mul-place c = omega (arith, mul-le-mul (c .before .before .before .before .before .loop .inv .0) (c .before .before .before .before .before .before .before .before .before .before .before .pre .1))
+
 mul-store-row : tie.Need-mul-store-row Inv-loop μ-loop
-mul-store-row c =
-    let o = c .before .before .before .before .before .before in
-    omega (arith, mul-le-mul (o .loop .inv .0) (o .before .before .before .before .before .before .pre .1))
+mul-store-row c = omega (arith, inside c)
+
+sub-store-row : tie.Need-sub-store-row Inv-loop μ-loop
+sub-store-row c = omega (arith, inside c)
+
+part-store-row-start : tie.Need-part-store-row-start Inv-loop μ-loop
+part-store-row-start c = omega (arith, inside c)
 
 store-row-requires : tie.Need-store-row-requires Inv-loop μ-loop
 store-row-requires c κs =
-    let i = c .before .before .before .before .before in
-    let o = i .before in
-    let a = o .before .before .before .before .before .before in
-    let last : o .loop .row < 32 = omega arith in
-    (omega (arith, a .pre .1), omega (arith, a .pre .4, o .loop .inv .3 .size, below-mul (a .args .lanes) last))
+    let o = c .before .before .before .before .before .before in
+    let a = c .before .before .before .before .before .before .before .before .before .before .before .before in
+    (omega (arith, a .pre .1), omega (arith, inside (c .before), part-length (o .loop .row * a .args .lanes) (o .loop .out)))
 
 loop-again : tie.Need-loop-again Inv-loop μ-loop
 loop-again c =
@@ -67,7 +82,7 @@ loop-again c =
       omega (arith, i .loop-test .taken),
       last-next (a .args .mode) (values (a .args .mode) e) (v .result) (o .loop .row) (a .args .lanes) (a .pre .0) row,
       next .ensures .1,
-      unpack-more (o .loop .inv .3) row (c .before .before .store-row .ensures),
+      unpack-more (o .loop .inv .3) row (row-back (o .loop .row * a .args .lanes) (a .args .lanes) (v .result) (o .loop .out) _ (omega (arith, inside (c .before .before .before .before))) (c .before .before .store-row .ensures)),
     )
 
 same-length : tie.Need-same-length Inv-loop μ-loop
@@ -78,4 +93,4 @@ unfolding unpacked
 returns c = unpack-end (c .before .loop .inv .3) (omega arith) (c .before .before .before .before .before .before .before .pre .4)
 
 pub unpack-spec : {M : Type 1} → statement M
-unpack-spec = tie.close (tie.spec Inv-loop μ-loop (search needs) (search needs) (search needs) loop-holds unpack-row-requires (search needs) (search needs) mul-store-row store-row-requires (search needs) (search needs) loop-again same-length returns)
+unpack-spec = tie.close (tie.spec Inv-loop μ-loop (search needs) (search needs) (search needs) loop-holds unpack-row-requires (search needs) (search needs) mul-place mul-store-row sub-store-row part-store-row-start (search needs) store-row-requires (search needs) (search needs) loop-again same-length returns)

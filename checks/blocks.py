@@ -1,0 +1,370 @@
+#!/usr/bin/env python3
+"""What the program blocks_check must write, worked out from document 01 bit by bit.
+
+    python3 checks/blocks.py > crates/blocks_check/stdout
+
+The first part is the block calls as document 01 has them. The second builds the inputs that the
+program builds. The third goes through the cases in the program's order, a line for each.
+"""
+
+# ---- "Words", "Entries", "Bit layout", "Block calls" and "Numbers of refusal" of document 01 ----
+
+BOUND = 4294967296  # "All differences and sums are taken modulo 4,294,967,296."
+LARGEST = BOUND - 1
+
+# A mode is its name and its first number; None is strict's none.
+PLAIN = ("plain", 0)
+NONE = ("strict", None)
+
+
+def SORTED(first):
+    return ("sorted", first)
+
+
+def STRICT(first):
+    return ("strict", first)
+
+
+def first_number(mode):
+    """ "None stands for 4,294,967,295." """
+    return LARGEST if mode == NONE else mode[1]
+
+
+def entry_of(mode, previous, value):
+    if mode[0] == "plain":
+        return value
+    if mode[0] == "sorted":
+        return (value - previous) % BOUND
+    return (value - previous - 1) % BOUND
+
+
+def value_of(mode, previous, entry):
+    """ "Unpacking runs the same steps backward." """
+    if mode[0] == "plain":
+        return entry
+    if mode[0] == "sorted":
+        return (previous + entry) % BOUND
+    return (previous + entry + 1) % BOUND
+
+
+def entries_of(mode, values):
+    previous = [first_number(mode)] + values[:-1]
+    return [entry_of(mode, p, v) for p, v in zip(previous, values)]
+
+
+def values_of(mode, entries):
+    values, previous = [], first_number(mode)
+    for entry in entries:
+        previous = value_of(mode, previous, entry)
+        values.append(previous)
+    return values
+
+
+def fits(entries, n):
+    """ "A block fits n when every entry is below 2 to the power n." """
+    return all(entry < 2**n for entry in entries)
+
+
+def least_width(entries):
+    """ "Least width is the least n that the block fits." """
+    return next(n for n in range(33) if fits(entries, n))
+
+
+def place_of(lanes, n, k, j):
+    """Where bit j of entry k stands: the byte, and the bit of that byte."""
+    lane, row = k % lanes, k // lanes
+    p = row * n + j
+    word, bit = p // 32, p % 32
+    return 4 * (word * lanes + lane) + bit // 8, bit % 8
+
+
+def payload_of(lanes, n, entries):
+    payload = [0] * (4 * lanes * n)
+    for k, entry in enumerate(entries):
+        for j in range(n):
+            byte, bit = place_of(lanes, n, k, j)
+            payload[byte] |= (entry >> j & 1) << bit
+    return payload
+
+
+def entries_in(lanes, n, payload):
+    entries = [0] * (32 * lanes)
+    for k in range(32 * lanes):
+        for j in range(n):
+            byte, bit = place_of(lanes, n, k, j)
+            entries[k] |= (payload[byte] >> bit & 1) << j
+    return entries
+
+
+def size(lanes, n):
+    """The refusal and the length. "Payload size: 1, 2." """
+    if lanes not in (1, 4, 8):
+        return 1, 0
+    if n > 32:
+        return 2, 0
+    return 0, 4 * lanes * n
+
+
+def pack(lanes, mode, values, room, n):
+    """The refusal, the length, and the bytes that are written. "Pack: 1, 2, 3, 4, 6." """
+    if lanes not in (1, 4, 8):
+        return 1, 0, []
+    if n > 32:
+        return 2, 0, []
+    if len(values) != 32 * lanes:
+        return 3, 0, []
+    if room < 4 * lanes * n:
+        return 4, 0, []
+    if not fits(entries_of(mode, values), n):
+        return 6, 0, []
+    return 0, 4 * lanes * n, payload_of(lanes, n, entries_of(mode, values))
+
+
+def unpack(lanes, mode, data, room, n):
+    """The refusal, the length, and the values that are written. "Unpack: 1, 2, 4, 5." """
+    if lanes not in (1, 4, 8):
+        return 1, 0, []
+    if n > 32:
+        return 2, 0, []
+    if room < 32 * lanes:
+        return 4, 0, []
+    if len(data) < 4 * lanes * n:
+        return 5, 0, []
+    return 0, 4 * lanes * n, values_of(mode, entries_in(lanes, n, data))
+
+
+def least(lanes, mode, values):
+    """The refusal and the width. "Width: 1, 3." """
+    if lanes not in (1, 4, 8):
+        return 1, 0
+    if len(values) != 32 * lanes:
+        return 3, 0
+    return 0, least_width(entries_of(mode, values))
+
+
+# ---- The inputs, and what a buffer holds after a call ----
+
+BYTES, BYTE_MARK = 1040, 165
+VALUES, VALUE_MARK = 264, 2863311530
+
+
+def noise(seed):
+    """Bytes of a small generator."""
+    data, x = [], seed
+    for _ in range(BYTES):
+        x = (x * 1103515245 + 12345) % BOUND
+        data.append(x // 65536 % 256)
+    return data
+
+
+def one_entry(mode, place, entry):
+    """Values whose entries are all 0, but for the one at a place."""
+    return values_of(mode, [entry if k == place else 0 for k in range(VALUES)])
+
+
+def sequence(start, step):
+    """Values that go on by the same step, and wrap."""
+    return [(start + k * step) % BOUND for k in range(VALUES)]
+
+
+def checksum(buffer):
+    total = 0
+    for x in buffer:
+        total = (total * 31 + x) % BOUND
+    return total
+
+
+def kept(buffer, mark):
+    """How many marks there are at the end."""
+    end = len(buffer)
+    while end > 0 and buffer[end - 1] == mark:
+        end -= 1
+    return len(buffer) - end
+
+
+def bytes_words(written):
+    """A buffer full of marks, over whose front the bytes were written."""
+    buffer = written + [BYTE_MARK] * (BYTES - len(written))
+    return [("bytes_kept", kept(buffer, BYTE_MARK)), ("bytes_sum", checksum(buffer))]
+
+
+def values_words(written):
+    """A buffer full of marks, over whose front the values were written."""
+    buffer = written + [VALUE_MARK] * (VALUES - len(written))
+    return [("values_kept", kept(buffer, VALUE_MARK)), ("values_sum", checksum(buffer))]
+
+
+def same(given, back):
+    return sum(a == b for a, b in zip(given, back))
+
+
+# ---- The lines: a label, the lanes and the mode, and then what was given and what was answered ----
+
+
+def line(label, lanes, mode, *words):
+    first = [] if mode == PLAIN else [("first", "none" if mode == NONE else mode[1])]
+    words = [("lanes", lanes), ("mode", mode[0])] + first + list(words)
+    print(label, *(f"{name}={value}" for name, value in words))
+
+
+def answer(name, refusal, answered, *_):
+    return (name, f"{refusal},{answered}")
+
+
+def all_calls(label, lanes, mode, place, entry, values, data, n):
+    """All four calls, between so many values and so many bytes."""
+    given = one_entry(mode, place, entry)[:values]
+    packed = pack(lanes, mode, given, data, n)
+    unpacked = unpack(lanes, mode, noise(7)[:data], values, n)
+    line(label, lanes, mode, ("place", place), ("entry", entry), ("values", values), ("bytes", data), ("width", n),
+         answer("size", *size(lanes, n)), answer("pack", *packed), *bytes_words(packed[2]),
+         answer("unpack", *unpacked), *values_words(unpacked[2]), answer("least", *least(lanes, mode, given)))
+
+
+def there_and_back(label, lanes, mode, values, n, words):
+    """A block's payload, and how many of its values come back. `words` shows the payload."""
+    packed = pack(lanes, mode, values, BYTES, n)
+    unpacked = unpack(lanes, mode, packed[2], VALUES, n)
+    line(label, lanes, mode, answer("least", *least(lanes, mode, values)), ("width", n), answer("pack", *packed),
+         answer("unpack", *unpacked), ("back", same(values, unpacked[2])), *words(packed[2]))
+
+
+def hex_word(payload):
+    return [("payload", bytes(payload).hex())]
+
+
+def bytes_not_zero(payload):
+    return [(f"byte{i}", f"{byte:02x}") for i, byte in enumerate(payload) if byte != 0]
+
+
+def width_zero(label, lanes, mode):
+    """No bytes at width 0 are a block, and that block packs to no bytes."""
+    unpacked = unpack(lanes, mode, [], VALUES, 0)
+    values = unpacked[2]
+    packed = pack(lanes, mode, values, 0, 0)
+    line(label, lanes, mode, answer("unpack", *unpacked), *values_words(values), ("value0", values[0]),
+         ("value1", values[1]), ("value2", values[2]), ("last", values[-1]), answer("pack", *packed),
+         *bytes_words(packed[2]))
+
+
+def trip(lanes, mode, n):
+    """Any bytes unpack to a block, and that block packs to the same bytes."""
+    data = noise(n)[:4 * lanes * n]
+    unpacked = unpack(lanes, mode, data, VALUES, n)
+    values = unpacked[2]
+    packed = pack(lanes, mode, values, BYTES, n)
+    line("trip", lanes, mode, ("width", n), answer("size", *size(lanes, n)), answer("unpack", *unpacked),
+         *values_words(values), answer("least", *least(lanes, mode, values)), answer("pack", *packed),
+         ("back", same(data, packed[2])))
+
+
+# ---- The cases ----
+
+# The long examples in the comments of the Rust's src/lib.rs.
+EXAMPLE_1 = """
+  7   7   7   7  11  10  15  13   6   5   3  14   5   7  15  12
+  1  10   8  10  12  14  13   1  10   1   1  10   4  15  12   1
+  2   0   8   5  14   5   2   4   1   6  14  13   5  10  10   1
+  6   4   1  12   1   1   5  15  15   2   8   6   4   3  10   8
+  8   9   2   6  10   5   7   9   0  13  15   5  13  10   0   2
+ 10  14   5   9  12   8   5  10   8   8  10   5  13   8  11  14
+  7  14   4   2   9  12  14   5  15  12   0  12  13   3  13   5
+  4  15   9   8   9   3   3   3   1  12   0   6  11  11  12   4
+"""
+
+EXAMPLE_2 = """
+  0   5   6   8  12  21  30  38  46  52  59  61  62  62  71  71
+ 73  74  76  77  80  87  96  99 105 114 119 121 128 133 138 145
+152 161 161 166 175 176 180 186 189 193 202 211 220 224 229 238
+247 255 261 267 267 268 269 269 270 271 279 283 285 291 297 303
+305 309 310 315 316 316 321 324 329 337 339 342 350 355 364 373
+382 386 392 400 408 414 423 431 433 436 441 444 445 454 463 463
+465 472 474 477 480 488 493 496 501 503 509 515 519 526 526 532
+539 542 542 542 549 557 565 566 573 578 580 581 585 588 588 591
+"""
+
+
+def examples():
+    for label, mode, text in (("example1", PLAIN, EXAMPLE_1), ("example2", SORTED(0), EXAMPLE_2)):
+        there_and_back(label, 4, mode, [int(number) for number in text.split()], 4, hex_word)
+
+
+def starred():
+    """The starred cases 1 to 5."""
+    there_and_back("case1", 1, PLAIN, [1, 2, 3] + [0] * 29, 2, bytes_not_zero)
+    there_and_back("case2", 4, PLAIN, one_entry(PLAIN, 1, 1)[:128], 1, bytes_not_zero)
+    there_and_back("case2", 4, PLAIN, one_entry(PLAIN, 4, 1)[:128], 1, bytes_not_zero)
+    there_and_back("case3", 1, PLAIN, one_entry(PLAIN, 1, 3)[:32], 31, bytes_not_zero)
+    there_and_back("case4", 8, PLAIN, one_entry(PLAIN, 9, 0x01020304)[:256], 32, bytes_not_zero)
+    for lanes in (1, 4, 8):
+        there_and_back("case5", lanes, NONE, sequence(0, 1)[:32 * lanes], 0, bytes_not_zero)
+        there_and_back("case5", lanes, SORTED(5), sequence(3, 0)[:32 * lanes], 32, bytes_not_zero)
+
+
+def other_lanes(mode, n):
+    """Lanes that are not 1, 4 or 8."""
+    for lanes, values in ((0, 0), (2, 64), (3, 96), (5, 160), (16, VALUES), (2**64 - 1, VALUES)):
+        all_calls("lanes", lanes, mode, 9, 3, values, BYTES, n)
+
+
+def faults(lanes, mode):
+    """Every set of faults: 16 for the lanes, 8 for the width, 4 for the values, 2 for the bytes, 1 for an entry."""
+    for s in range(32):
+        all_calls("fault", lanes + s // 16, mode, 9, 3 + s % 2, 32 * lanes - s // 4 % 2, 8 * lanes - s // 2 % 2,
+                  2 + 31 * (s // 8 % 2))
+
+
+def limits(lanes, mode):
+    block, exact = 32 * lanes, 8 * lanes
+    for n in (0, 1, 31, 32, 33, LARGEST):
+        all_calls("width", lanes, mode, 9, 3, block, BYTES, n)
+    for values in (0, block - 1, block, block + 1):
+        for data in (0, exact - 1, exact, exact + 1):
+            all_calls("length", lanes, mode, 9, 3, values, data, 2)
+    for values in (0, block - 1, block, block + 1):
+        all_calls("length", lanes, mode, 9, 0, values, 0, 0)
+    for entry, n in ((3, 2), (4, 2), (0, 0), (1, 0), (LARGEST, 32), (LARGEST, 33)):
+        all_calls("edge7", lanes, mode, 9, entry, block, BYTES, n)
+    for n in (1, 17, 32):
+        for place in (0, block // 2, block - 1):
+            all_calls("wide", lanes, mode, place, 2 ** (n - 1), block, BYTES, n)
+            all_calls("wide", lanes, mode, place, 2 ** (n - 1), block, BYTES, n - 1)
+
+
+def wraps(lanes, mode):
+    """Values that rise past the largest, that fall, and that stay."""
+    for start, step in ((BOUND - 16, 3), (10, BOUND - 7), (5, 0)):
+        values = sequence(start, step)[:32 * lanes]
+        there_and_back("wrap", lanes, mode, values, least_width(entries_of(mode, values)),
+                       lambda payload: bytes_words(payload) + [("start", start), ("step", step)])
+
+
+def all_cases(lanes):
+    width_zero("case6", lanes, STRICT(LARGEST - 1))
+    for mode in (PLAIN, SORTED(5), NONE):
+        limits(lanes, mode)
+    for mode in (PLAIN, SORTED(5), SORTED(LARGEST), NONE, STRICT(LARGEST), STRICT(7)):
+        width_zero("zero", lanes, mode)
+    for mode in (SORTED(5), SORTED(LARGEST - 5), NONE, STRICT(LARGEST), STRICT(LARGEST - 1)):
+        wraps(lanes, mode)
+    for mode in (PLAIN, SORTED(5), SORTED(LARGEST), NONE, STRICT(7)):
+        for n in range(33):
+            trip(lanes, mode, n)
+
+
+def main():
+    examples()
+    starred()
+    other_lanes(PLAIN, 2)
+    other_lanes(PLAIN, LARGEST)
+    other_lanes(SORTED(5), 2)
+    other_lanes(NONE, 2)
+    faults(1, PLAIN)
+    faults(4, SORTED(5))
+    faults(8, NONE)
+    for lanes in (1, 4, 8):
+        all_cases(lanes)
+
+
+if __name__ == "__main__":
+    main()

@@ -1,0 +1,25 @@
+-- `buffers::sum_bytes` is safe and ends: `i` stays within the bytes.
+use Prim.Native.Nat.{_≤_, _-_}
+use borrow.Author.Needs.{needs}
+use Rattle.blocks_check.proofs.buffers.sum_bytes.Statement.{statement}
+use Rattle.blocks_check.proofs.buffers.sum_bytes.Tie as tie
+
+abbrev Inv-loop : tie.InvT-loop
+Inv-loop bytes sum₀ i₀ i-end sum i = i ≤ i-end
+
+abbrev μ-loop : tie.MeasureT-loop
+μ-loop bytes sum₀ i₀ i-end sum i = i-end - i
+
+pub sum-bytes-spec : {M : Type 1} → statement M
+sum-bytes-spec =
+    tie.close
+    (tie.spec
+    Inv-loop
+    μ-loop
+    (search needs)
+    (search needs)
+    (search needs)
+    (search needs)
+    (search needs)
+    (search needs)
+    (search needs))

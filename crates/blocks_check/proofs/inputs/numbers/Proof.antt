@@ -1,0 +1,31 @@
+-- `inputs::numbers` is safe and ends: the array keeps its length, and `k` stays within it.
+use mathlib.Core.Path.{_≡_}
+use Prim.Native.Nat.{_≤_, _-_}
+use lib.ListN.{length}
+use borrow.Author.Needs.{needs}
+use Rattle.blocks_check.proofs.inputs.numbers.Statement.{statement}
+use Rattle.blocks_check.proofs.inputs.numbers.Tie as tie
+
+abbrev Inv-loop : tie.InvT-loop
+Inv-loop text values₀ k₀ values k = (k ≤ 264) × (264 ≡ length values)
+
+abbrev μ-loop : tie.MeasureT-loop
+μ-loop text values₀ k₀ values k = 264 - k
+
+loop-again : tie.Need-loop-again Inv-loop μ-loop
+loop-again c = search needs
+
+pub numbers-spec : {M : Type 1} → statement M
+numbers-spec =
+    tie.close
+    (tie.spec
+    Inv-loop
+    μ-loop
+    (search needs)
+    (search needs)
+    (search needs)
+    (search needs)
+    (search needs)
+    (search needs)
+    loop-again
+    (search needs))

@@ -1,0 +1,33 @@
+-- `inputs::one_entry` is safe and ends: the array keeps its length, and `k` stays within it.
+use mathlib.Core.Path.{_≡_}
+use Prim.Native.Nat.{_≤_, _-_}
+use lib.ListN.{length}
+use borrow.Author.Needs.{needs}
+use Rattle.blocks_check.proofs.inputs.one_entry.Statement.{statement}
+use Rattle.blocks_check.proofs.inputs.one_entry.Tie as tie
+
+abbrev Inv-loop : tie.InvT-loop
+Inv-loop mode place entry values₀ previous₀ k₀ values previous k = (k ≤ 264) × (264 ≡ length values)
+
+abbrev μ-loop : tie.MeasureT-loop
+μ-loop mode place entry values₀ previous₀ k₀ values previous k = 264 - k
+
+loop-again : tie.Need-loop-again Inv-loop μ-loop
+loop-again c = search needs
+
+pub one-entry-spec : {M : Type 1} → statement M
+one-entry-spec =
+    tie.close
+    (tie.spec
+    Inv-loop
+    μ-loop
+    (search needs)
+    (search needs)
+    (search needs)
+    (search needs)
+    (search needs)
+    (search needs)
+    (search needs)
+    (search needs)
+    loop-again
+    (search needs))

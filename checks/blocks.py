@@ -17,11 +17,11 @@ PLAIN = ("plain", 0)
 NONE = ("strict", None)
 
 
-def SORTED(first):
+def sorted_from(first):
     return ("sorted", first)
 
 
-def STRICT(first):
+def strict_from(first):
     return ("strict", first)
 
 
@@ -285,7 +285,7 @@ EXAMPLE_2 = """
 
 
 def examples():
-    for label, mode, text in (("example1", PLAIN, EXAMPLE_1), ("example2", SORTED(0), EXAMPLE_2)):
+    for label, mode, text in (("example1", PLAIN, EXAMPLE_1), ("example2", sorted_from(0), EXAMPLE_2)):
         there_and_back(label, 4, mode, [int(number) for number in text.split()], 4, hex_word)
 
 
@@ -298,7 +298,7 @@ def starred():
     there_and_back("case4", 8, PLAIN, one_entry(PLAIN, 9, 0x01020304)[:256], 32, bytes_not_zero)
     for lanes in (1, 4, 8):
         there_and_back("case5", lanes, NONE, sequence(0, 1)[:32 * lanes], 0, bytes_not_zero)
-        there_and_back("case5", lanes, SORTED(5), sequence(3, 0)[:32 * lanes], 32, bytes_not_zero)
+        there_and_back("case5", lanes, sorted_from(5), sequence(3, 0)[:32 * lanes], 32, bytes_not_zero)
 
 
 def other_lanes(mode, n):
@@ -340,14 +340,14 @@ def wraps(lanes, mode):
 
 
 def all_cases(lanes):
-    width_zero("case6", lanes, STRICT(LARGEST - 1))
-    for mode in (PLAIN, SORTED(5), NONE):
+    width_zero("case6", lanes, strict_from(LARGEST - 1))
+    for mode in (PLAIN, sorted_from(5), NONE):
         limits(lanes, mode)
-    for mode in (PLAIN, SORTED(5), SORTED(LARGEST), NONE, STRICT(LARGEST), STRICT(7)):
+    for mode in (PLAIN, sorted_from(5), sorted_from(LARGEST), NONE, strict_from(LARGEST), strict_from(7)):
         width_zero("zero", lanes, mode)
-    for mode in (SORTED(5), SORTED(LARGEST - 5), NONE, STRICT(LARGEST), STRICT(LARGEST - 1)):
+    for mode in (sorted_from(5), sorted_from(LARGEST - 5), NONE, strict_from(LARGEST), strict_from(LARGEST - 1)):
         wraps(lanes, mode)
-    for mode in (PLAIN, SORTED(5), SORTED(LARGEST), NONE, STRICT(7)):
+    for mode in (PLAIN, sorted_from(5), sorted_from(LARGEST), NONE, strict_from(7)):
         for n in range(33):
             trip(lanes, mode, n)
 
@@ -357,10 +357,10 @@ def main():
     starred()
     other_lanes(PLAIN, 2)
     other_lanes(PLAIN, LARGEST)
-    other_lanes(SORTED(5), 2)
+    other_lanes(sorted_from(5), 2)
     other_lanes(NONE, 2)
     faults(1, PLAIN)
-    faults(4, SORTED(5))
+    faults(4, sorted_from(5))
     faults(8, NONE)
     for lanes in (1, 4, 8):
         all_cases(lanes)

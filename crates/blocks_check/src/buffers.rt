@@ -1,5 +1,9 @@
 // Buffers that are full of marks before a call, and what they hold after it.
 use crate::line;
+use crate::parts::byte_at;
+use crate::parts::first_values;
+use crate::parts::value_at;
+use crate::parts::wide;
 ghost use mathlib.Core.Path.{_≡_};
 ghost use Prim.Native.Nat.{_≤_};
 ghost use lib.ListN.{length};
@@ -22,42 +26,22 @@ pub(crate) fn marked_values() -> [u32; 264]
     [VALUE_MARK; 264]
 }
 
-// The first `count` bytes, or all where there are fewer.
-pub(crate) fn first_bytes(bytes: &[u8], count: usize) -> &[u8] {
-    if count < bytes.len() {
-        &bytes[0..count]
-    } else {
-        bytes
+// The bytes as values, and then zeros.
+fn widened(bytes: &[u8]) -> [u32; 1040]
+    ensures { λ r. ⌜ 1040 ≡ length r ⌝ }
+{
+    let mut values = [0u32; 1040];
+    for i in 0..1040 {
+        values[i] = byte_at(bytes, i);
     }
-}
-
-// The first `count` values, or all where there are fewer.
-pub(crate) fn first_values(values: &[u32], count: usize) -> &[u32] {
-    if count < values.len() {
-        &values[0..count]
-    } else {
-        values
-    }
-}
-
-// How many bytes at the end are still marks.
-fn kept_bytes(bytes: &[u8]) -> usize {
-    let mut kept = 0;
-    for i in 0..bytes.len() {
-        if bytes[i] == BYTE_MARK {
-            kept += 1;
-        } else {
-            kept = 0;
-        }
-    }
-    kept
+    values
 }
 
 // How many values at the end are still marks.
-fn kept_values(values: &[u32]) -> usize {
+fn kept(values: &[u32], mark: u32) -> usize {
     let mut kept = 0;
     for i in 0..values.len() {
-        if values[i] == VALUE_MARK {
+        if values[i] == mark {
             kept += 1;
         } else {
             kept = 0;
@@ -66,84 +50,52 @@ fn kept_values(values: &[u32]) -> usize {
     kept
 }
 
-// A checksum with one more number in it.
-fn add_number(sum: u32, number: u32) -> u32 {
-    ((sum as u64 * 31 + number as u64) % 4294967296) as u32
-}
-
-// A checksum with one more byte in it.
-fn add_byte(sum: u32, byte: u8) -> u32 {
-    add_number(sum, byte as u32)
-}
-
-// A checksum of every byte at its place.
-fn sum_bytes(bytes: &[u8]) -> u32 {
-    let mut sum = 0;
-    for i in 0..bytes.len() {
-        sum = add_byte(sum, bytes[i]);
-    }
-    sum
+// A checksum with one more value in it.
+fn add_value(sum: u32, value: u32) -> u32 {
+    ((sum as u64 * 31 + value as u64) % 4294967296) as u32
 }
 
 // A checksum of every value at its place.
-fn sum_values(values: &[u32]) -> u32 {
+fn checksum(values: &[u32]) -> u32 {
     let mut sum = 0;
     for i in 0..values.len() {
-        sum = add_number(sum, values[i]);
+        sum = add_value(sum, values[i]);
     }
     sum
 }
 
 // What a whole buffer of bytes holds.
 pub(crate) fn bytes_words(bytes: &[u8]) {
-    line::count(b"bytes_kept", kept_bytes(bytes));
-    line::number(b"bytes_sum", sum_bytes(bytes));
+    let values = widened(bytes);
+    line::count(b"bytes_kept", kept(&values, wide(BYTE_MARK)));
+    line::number(b"bytes_sum", checksum(&values));
 }
 
 // What a whole buffer of values holds.
 pub(crate) fn values_words(values: &[u32]) {
-    line::count(b"values_kept", kept_values(values));
-    line::number(b"values_sum", sum_values(values));
+    line::count(b"values_kept", kept(values, VALUE_MARK));
+    line::number(b"values_sum", checksum(values));
 }
 
-// 1 if the byte stands at the place, and else 0.
-fn byte_stands(bytes: &[u8], place: usize, byte: u8) -> usize
+// 1 if the two are the same, and else 0.
+fn equal(a: u32, b: u32) -> usize
     ensures { λ r. ⌜ r ≤ 1 ⌝ }
 {
-    if place < bytes.len() {
-        if bytes[place] == byte {
-            return 1;
-        }
-    }
-    0
+    if a == b { 1 } else { 0 }
 }
 
-// 1 if the value stands at the place, and else 0.
-fn value_stands(values: &[u32], place: usize, value: u32) -> usize
-    ensures { λ r. ⌜ r ≤ 1 ⌝ }
-{
-    if place < values.len() {
-        if values[place] == value {
-            return 1;
-        }
-    }
-    0
-}
-
-// How many of the bytes stand at the same place in the others.
-pub(crate) fn same_bytes(bytes: &[u8], others: &[u8]) -> usize {
-    let mut same = 0;
-    for i in 0..bytes.len() {
-        same += byte_stands(others, i, bytes[i]);
-    }
-    same
-}
-
-// How many of the values stand at the same place in the others.
+// How many of the values the others, which are no fewer, have at the same place.
 pub(crate) fn same_values(values: &[u32], others: &[u32]) -> usize {
     let mut same = 0;
     for i in 0..values.len() {
-        same += value_stands(others, i, values[i]);
+        same += equal(values[i], value_at(others, i));
     }
     same
+}
+
+// How many of the bytes the others, which are no fewer, have at the same place.
+pub(crate) fn same_bytes(bytes: &[u8], others: &[u8]) -> usize {
+    let values = widened(bytes);
+    let other_values = widened(others);
+    same_values(first_values(&values, bytes.len()), &other_values)
 }

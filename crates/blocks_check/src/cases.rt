@@ -1,6 +1,4 @@
 // The starred cases 1 to 6 of document 01, and the two long examples in the comments of the Rust's `src/lib.rs`.
-use crate::buffers::first_bytes;
-use crate::buffers::first_values;
 use crate::buffers::marked_bytes;
 use crate::buffers::marked_values;
 use crate::buffers::values_words;
@@ -11,6 +9,9 @@ use crate::inputs::numbers;
 use crate::inputs::one_entry;
 use crate::inputs::sequence;
 use crate::line;
+use crate::parts::first_bytes;
+use crate::parts::first_values;
+use crate::parts::value_at;
 use crate::trips::there_and_back;
 use modes::Initial;
 use modes::Mode;
@@ -65,15 +66,6 @@ fn packed_to_nothing(lanes: usize, mode: Mode, values: &[u32]) {
     pack_words(lanes, mode, values, 0, 0);
 }
 
-// The value at a place, and 0 where there is none.
-fn value_at(values: &[u32], place: usize) -> u32 {
-    if place < values.len() {
-        values[place]
-    } else {
-        0
-    }
-}
-
 // No bytes at width 0 are a block, written over what was there.
 pub(crate) fn width_zero(label: &[u8], lanes: usize, mode: Mode) {
     let mut values = marked_values();
@@ -98,7 +90,7 @@ pub(crate) fn starred() {
 }
 
 // The starred case 6.
-pub(crate) fn strict_at_the_end(lanes: usize) {
+pub(crate) fn case_6(lanes: usize) {
     width_zero(b"case6", lanes, Mode::Strict(Initial::Number(4294967294)));
 }
 

@@ -1,4 +1,5 @@
 // The blocks and bytes that are packed and unpacked, each made from a short description.
+use crate::parts::byte_at;
 use modes::Mode;
 use modes::initial_value;
 use std::num::wrapping_add_u32;
@@ -75,25 +76,15 @@ pub(crate) fn sequence(start: u32, step: u32) -> [u32; 264]
     values
 }
 
-// The digit that a byte stands for, and 0 for a space.
-fn digit(byte: u8) -> u32
-    ensures { λ r. ⌜ r ≤ 9 ⌝ }
-{
-    if byte < 48 {
-        return 0;
-    }
-    (byte - 48) as u32 % 10
-}
-
-// The digit at a place of a text, and 0 past its end.
+// The digit at a place of a text, and 0 for a space.
 fn digit_at(text: &[u8], place: usize) -> u32
     ensures { λ r. ⌜ r ≤ 9 ⌝ }
 {
-    if place < text.len() {
-        digit(text[place])
-    } else {
-        0
+    let byte = byte_at(text, place);
+    if byte < 48 {
+        return 0;
     }
+    (byte - 48) % 10
 }
 
 // Number k of a text, which has three digits or spaces and then one byte more for each.

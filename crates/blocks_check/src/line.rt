@@ -1,14 +1,12 @@
 // The words of a line on standard output: a label, and then `name=value` words.
+use crate::parts::byte_at;
 use blocks::Answer;
+use blocks::Width;
 use libc::STDOUT_FILENO;
 use modes::Initial;
 use modes::Mode;
 
-fn wide(byte: u8) -> u64 {
-    byte as u64
-}
-
-// A number alone, for the second part of a value.
+// A number, with no name.
 fn digits(value: u64) {
     io::print_decimal(STDOUT_FILENO, value);
 }
@@ -48,7 +46,7 @@ pub(crate) fn answer(word: &[u8], value: Answer) {
 }
 
 // A word with the number of the refusal and the width that a call answers.
-pub(crate) fn width_answer(word: &[u8], value: blocks::Width) {
+pub(crate) fn width_answer(word: &[u8], value: Width) {
     let refusal = value.refusal;
     let width = value.width;
     number(word, refusal.number());
@@ -85,24 +83,24 @@ pub(crate) fn start(label: &[u8], lanes: usize, mode: Mode) {
 pub(crate) fn hex(word: &[u8], bytes: &[u8]) {
     name(word);
     for i in 0..bytes.len() {
-        io::print_hex(STDOUT_FILENO, wide(bytes[i]), 2);
+        io::print_hex(STDOUT_FILENO, byte_at(bytes, i) as u64, 2);
     }
 }
 
 // A word for the byte at a place, in hex, where it is not 0.
-fn byte_word(place: usize, byte: u8) {
+fn byte_word(place: usize, byte: u32) {
     if byte != 0 {
         io::write_all(STDOUT_FILENO, b" byte");
         digits(place as u64);
         io::write_all(STDOUT_FILENO, b"=");
-        io::print_hex(STDOUT_FILENO, wide(byte), 2);
+        io::print_hex(STDOUT_FILENO, byte as u64, 2);
     }
 }
 
 // A word for each byte that is not 0.
 pub(crate) fn bytes_not_zero(bytes: &[u8]) {
     for i in 0..bytes.len() {
-        byte_word(i, bytes[i]);
+        byte_word(i, byte_at(bytes, i));
     }
 }
 

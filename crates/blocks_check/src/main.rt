@@ -1,8 +1,8 @@
 // Runs the block calls and writes a line for each case. checks/blocks.py works out the same lines from document 01.
+use cases::case_6;
 use cases::plain_example;
 use cases::sorted_example;
 use cases::starred;
-use cases::strict_at_the_end;
 use cases::width_zero;
 use limits::edge_7;
 use limits::faults;
@@ -22,6 +22,7 @@ mod cases;
 mod inputs;
 mod limits;
 mod line;
+mod parts;
 mod trips;
 
 // What the calls answer at the limits.
@@ -63,7 +64,7 @@ fn all_trips(lanes: usize) {
 
 // Every case of a lane count.
 fn all_cases(lanes: usize) {
-    strict_at_the_end(lanes);
+    case_6(lanes);
     limits_in(lanes, Mode::Plain);
     limits_in(lanes, Mode::Sorted(5));
     limits_in(lanes, Mode::Strict(Initial::None));
@@ -72,6 +73,7 @@ fn all_cases(lanes: usize) {
     all_trips(lanes);
 }
 
+// Every case.
 fn main() {
     plain_example();
     sorted_example();

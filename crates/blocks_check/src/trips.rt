@@ -1,7 +1,5 @@
-// Blocks that are packed and unpacked again: the starred cases and the long examples, differences that wrap, and any bytes at every width.
+// Blocks there and back: values that are packed and unpacked, and any bytes that are unpacked and packed at every width.
 use crate::buffers::bytes_words;
-use crate::buffers::first_bytes;
-use crate::buffers::first_values;
 use crate::buffers::marked_bytes;
 use crate::buffers::marked_values;
 use crate::buffers::same_bytes;
@@ -13,6 +11,8 @@ use crate::inputs::block;
 use crate::inputs::noise;
 use crate::inputs::sequence;
 use crate::line;
+use crate::parts::first_bytes;
+use crate::parts::first_values;
 use blocks::Answer;
 use blocks::compressed_block_size;
 use blocks::num_bits;
@@ -59,7 +59,7 @@ pub(crate) fn there_and_back(
     length
 }
 
-// A sequence at its least width.
+// Values that go on by the same step, at their least width.
 fn wrap(lanes: usize, mode: Mode, start: u32, step: u32) {
     let all = sequence(start, step);
     let values = first_values(&all, block(lanes));
@@ -80,7 +80,7 @@ pub(crate) fn wraps(lanes: usize, mode: Mode) {
     wrap(lanes, mode, 5, 0);
 }
 
-// Any bytes unpack to a block, and that block packs to as many of the same bytes.
+// Bytes that are unpacked, the block that they give, and how many of them come back from it.
 fn trip(lanes: usize, mode: Mode, width: u32) {
     let size = compressed_block_size(lanes, width);
     let length = size.length;
@@ -102,7 +102,7 @@ fn trip(lanes: usize, mode: Mode, width: u32) {
     line::end();
 }
 
-// Every width.
+// Any bytes at every width.
 pub(crate) fn trips(lanes: usize, mode: Mode) {
     for width in 0..33 {
         trip(lanes, mode, width);

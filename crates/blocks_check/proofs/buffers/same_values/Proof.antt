@@ -11,17 +11,4 @@ abbrev μ-loop : tie.MeasureT-loop
 μ-loop values others same₀ i₀ i-end same i = i-end - i
 
 pub same-values-spec : {M : Type 1} → statement M
-same-values-spec =
-    tie.close
-    (tie.spec
-    Inv-loop
-    μ-loop
-    (search needs)
-    (search needs)
-    (search needs)
-    (search needs)
-    (search needs)
-    (search needs)
-    (search needs)
-    (search needs)
-    (search needs))
+same-values-spec = tie.close (tie.spec Inv-loop μ-loop (search needs) (search needs) (search needs) (search needs) (search needs) (search needs) (search needs) (search needs) (search needs) (search needs))

@@ -11,14 +11,4 @@ abbrev μ-loop : tie.MeasureT-loop
 μ-loop lanes mode width₀ width = 33 - width
 
 pub trips-spec : {M : Type 1} → statement M
-trips-spec =
-    tie.close
-    (tie.spec
-    Inv-loop
-    μ-loop
-    (search needs)
-    (search needs)
-    (search needs)
-    (search needs)
-    (search needs)
-    (search needs))
+trips-spec = tie.close (tie.spec Inv-loop μ-loop (search needs) (search needs) (search needs) (search needs) (search needs) (search needs))

@@ -9,7 +9,8 @@ use crate::rust::{processor, unchecked, unrolled};
 use std::hint::black_box;
 use std::time::{Duration, Instant};
 
-const RUNS: usize = 9;
+const PASSES: usize = 5;
+const RUNS: usize = 3;
 const LEAST: Duration = Duration::from_millis(4);
 
 /// The best of several runs, in nanoseconds a call.
@@ -88,8 +89,15 @@ fn table(name: &str, blocks: &[Block], timed: fn(&Party, &Block) -> f64) {
     println!("\n## {name}\n");
     println!("| L | Mode | n | ours | simple | release | ours / simple | ours / release |");
     println!("|---|---|---|---|---|---|---|---|");
-    for block in blocks {
-        let [ours, simple, release] = PARTIES.map(|party| timed(&party, block));
+    let mut best = vec![[f64::MAX; 3]; blocks.len()];
+    for _ in 0..PASSES {
+        for (block, best) in blocks.iter().zip(&mut best) {
+            for (party, best) in PARTIES.iter().zip(best) {
+                *best = best.min(timed(party, block));
+            }
+        }
+    }
+    for (block, [ours, simple, release]) in blocks.iter().zip(best) {
         let (to_simple, to_release) = (ours / simple, ours / release);
         println!(
             "| {} | {} | {} | {ours:.0} | {simple:.0} | {release:.0} | {to_simple:.1} | {to_release:.1} |",
@@ -99,7 +107,7 @@ fn table(name: &str, blocks: &[Block], timed: fn(&Party, &Block) -> f64) {
 }
 
 pub fn run() -> bool {
-    println!("release Rust: {}; best of {RUNS} runs of at least {LEAST:?}", processor());
+    println!("release Rust: {}; best of {} runs of at least {LEAST:?}", processor(), PASSES * RUNS);
     let mut random = Random::new(1);
     let mut blocks = Vec::new();
     for lanes in [1, 4, 8] {

@@ -14,7 +14,7 @@ use Rattle.layout.specs.Width.{fits}
 use Rattle.modes.specs.declared.Mode.{Mode}
 use Rattle.modes.specs.Entries.{entries}
 use Rattle.blocks.specs.declared.refusal.Refusal.{Refusal}
-use Rattle.blocks.specs.declared.refusal.Refusal.the-variants.{Accepted, BadLanes, BadWidth, BadBlock, NoRoom, CutShort, TooWide}
+use Rattle.blocks.specs.declared.refusal.Refusal.the-variants.{Accepted, BadLanes, BadWidth, BadBlock, NoRoom, CutShort, TooWide, TooMany, OutOfOrder, NotLeast, BadFill, LeftOver, BadHeader}
 use Rattle.blocks.specs.Refusals.{accepted, refuse}
 use Rattle.blocks.specs.Calls.{isLanes, sizeRefusal, packRefusal, unpackRefusal, widthRefusal}
 
@@ -25,6 +25,22 @@ apart e = let z : _≡_ {A = ℕ} 0 1 = cc in omega arith
 pub passed : (t : Bool) (k next : Refusal) → accepted k ≡ false → accepted (refuse t k next) ≡ true → (t ≡ false) × (accepted next ≡ true)
 passed true k next h g = absurd (apart (sym g ∙ h))
 passed false k next h g = (refl, g)
+
+-- only `Accepted` is accepted
+pub accepted-is : (k : Refusal) → accepted k ≡ true → k ≡ Accepted
+accepted-is Accepted h = refl
+accepted-is BadLanes h = absurd (apart (sym h))
+accepted-is BadWidth h = absurd (apart (sym h))
+accepted-is BadBlock h = absurd (apart (sym h))
+accepted-is NoRoom h = absurd (apart (sym h))
+accepted-is CutShort h = absurd (apart (sym h))
+accepted-is TooWide h = absurd (apart (sym h))
+accepted-is TooMany h = absurd (apart (sym h))
+accepted-is OutOfOrder h = absurd (apart (sym h))
+accepted-is NotLeast h = absurd (apart (sym h))
+accepted-is BadFill h = absurd (apart (sym h))
+accepted-is LeftOver h = absurd (apart (sym h))
+accepted-is BadHeader h = absurd (apart (sym h))
 
 -- "1, 4 or 8" lanes
 pub lanes-of : (L : ℕ) → isLanes L ≡ true → (0 < L) × (L ≤ 8)

@@ -29,7 +29,8 @@ pub struct Width {
     pub width: u32,
 }
 
-fn is_lanes(lanes: usize) -> bool
+// Whether a block may have so many lanes: 1, 4 or 8.
+pub fn is_lanes(lanes: usize) -> bool
     ensures { λ r. ⌜ r ≡ isLanes lanes ⌝ }
 {
     if lanes == 1 {

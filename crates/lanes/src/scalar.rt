@@ -106,13 +106,13 @@ pub fn or_collapse_to_u32(accumulator: [u32; 8], lanes: usize) -> u32
     all
 }
 
-fn wrapping_add(a: u32, b: u32) -> u32
+pub fn wrapping_add(a: u32, b: u32) -> u32
     ensures { λ r. ⌜ r ≡ plus a b ⌝ }
 {
     std::num::wrapping_add_u32(a, b)
 }
 
-fn wrapping_sub(a: u32, b: u32) -> u32
+pub fn wrapping_sub(a: u32, b: u32) -> u32
     ensures { λ r. ⌜ r ≡ minus a b ⌝ }
 {
     std::num::wrapping_sub_u32(a, b)

@@ -6,3 +6,4 @@ pub mod Lanes
 pub mod RoundTrip
 pub mod Joined
 pub mod Widths
+pub mod Below

@@ -5,8 +5,8 @@ use Prim.Native.Nat.{ℕ, zero, suc, _+_, _-_, _≤_, _<_}
 use native.Mathlib.Numerals.{add-one}
 use native.Mathlib.Omega.{arith}
 use native.Mathlib.Decide.{decLt}
-use lib.ListN.{length, drop, length-append, length-drop, List·getD-append}
-use lib.Seq.{ext-getD, getD-append-add, getD-drop, getD-at}
+use lib.ListN.{length, take, drop, length-append, length-drop, List·getD-append}
+use lib.Seq.{ext-getD, getD-append-add, getD-drop, getD-take, getD-at, length-take-le}
 use Rattle.layout.specs.Layout.{at, table, packed, payloadByte, payloadSize}
 
 pub length-table : (f : ℕ → ℕ) (m : ℕ) → length (table f m) ≡ m
@@ -35,6 +35,12 @@ table-of f m xs size here =
 pub table-ext : (f g : ℕ → ℕ) (m : ℕ) → ((i : ℕ) → i < m → f i ≡ g i) → table f m ≡ table g m
 table-ext f g m same =
     table-of f m (table g m) (length-table g m) (λ i h. table-at g m i h ∙ sym (same i h))
+
+-- the front of a table
+pub take-table : (f : ℕ → ℕ) (k m : ℕ) → k ≤ m → take k (table f m) ≡ table f k
+take-table f k m h =
+    let len : length (take k (table f m)) ≡ k = length-take-le k (table f m) (rw length-table h) in
+    sym (table-of f k (take k (table f m)) len (λ i lt. getD-take k (table f m) i 0 lt ∙ table-at f m i (omega arith)))
 
 -- a list that is the table at its front, and as before behind that
 pub front-table : (f : ℕ → ℕ) (m : ℕ) (before after : List ℕ) → length after ≡ length before → m ≤ length before

@@ -18,7 +18,7 @@ use Rattle.layout.proofs.Products.{below-mul, factor-pos}
 abbrev pub Fit : (ℕ → ℕ) → ℕ → ℕ → Type 0
 Fit e m n = (k : ℕ) → k < m → e k < 2 ^ n
 
-and-both : (a b : Bool) → a && b ≡ true → (a ≡ true) × (b ≡ true)
+pub and-both : (a b : Bool) → a && b ≡ true → (a ≡ true) × (b ≡ true)
 and-both true b h = (refl, h)
 and-both false b h = let z : _≡_ {A = ℕ} 0 1 = cc in absurd (omega arith)
 
@@ -37,6 +37,29 @@ of-fits e (suc m) n t k h = go (λ lt. of-fits e m n (and-both (fits e m n) (ltb
     go ih (no ge) =
         let i : k ≡ m = omega arith in
         rw i (ltb-true (e m) (2 ^ n) (and-both (fits e m n) (ltb (e m) (2 ^ n)) t .1))
+
+-- one more fits
+pub fit-more : (e : ℕ → ℕ) (m n : ℕ) → Fit e m n → e m < 2 ^ n → Fit e (m + 1) n
+fit-more e m n f h k lt = go (decLt k m)
+  where
+    go : Dec (k < m) → e k < 2 ^ n
+    go (yes l) = f k l
+    go (no ge) =
+        let i : k ≡ m = omega arith in
+        rw i h
+
+-- one does not: then they do not
+pub fits-fails : (e : ℕ → ℕ) (m n k : ℕ) → k < m → 2 ^ n ≤ e k → fits e m n ≡ false
+fits-fails e m n k h big = go (fits e m n) refl
+  where
+    go : (b : Bool) → fits e m n ≡ b → fits e m n ≡ false
+    go false q = q
+    go true q = absurd (omega (arith, of-fits e m n q k h))
+
+pub fits-ext : (e f : ℕ → ℕ) (m n : ℕ) → ((k : ℕ) → k < m → e k ≡ f k) → fits e m n ≡ fits f m n
+unfolding fits
+fits-ext e f zero n same = refl
+fits-ext e f (suc m) n same = rw (same m (omega arith), fits-ext e f m n (λ k h. same k (omega arith)))
 
 -- n is the least width that e 0, .., e (m - 1) fit
 pub record Least (e : ℕ → ℕ) (m n : ℕ) : Type 0 where

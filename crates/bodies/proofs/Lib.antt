@@ -1,0 +1,4 @@
+pub mod Tests
+pub mod Block
+pub mod Whole
+pub mod Onward

@@ -1,0 +1,81 @@
+-- Reading a body, block by block: which refusal is given, and which list is read. bs are the bytes from a block on, k is how many of
+-- its values are the list's, and m is the mode past the values before it.
+use mathlib.Core.Bool.{not, cond}
+use mathlib.Core.List.{List, [], _++_}
+use Prim.Native.Nat.{ℕ, zero, suc, _+_, _-_, min}
+use lib.Dec.{ltb, eqb}
+use lib.ListN.{length, drop}
+use Rattle.layout.specs.Layout.{at, blockSize, payloadSize, table, payloadEntry}
+use Rattle.layout.specs.Width.{fits, leastWidth}
+use Rattle.modes.specs.declared.Mode.{Mode}
+use Rattle.blocks.specs.declared.refusal.Refusal.{Refusal}
+use Rattle.blocks.specs.declared.refusal.Refusal.the-variants.{Accepted, BadWidth, CutShort, OutOfOrder, NotLeast, BadFill, LeftOver}
+use Rattle.blocks.specs.Refusals.{accepted, refuse}
+use Rattle.order.specs.Order.{afterAll, ordered, valuesOf}
+use Rattle.bodies.specs.Body.{blocks}
+
+-- the refusal k, and where that accepts, what follows
+abbrev pub orElse : Refusal → Refusal → Refusal
+orElse k next = cond (accepted k) next k
+
+-- the width byte, the bytes of the block, its entry i, the list's own entries, and the values that these stand for
+abbrev pub widthAt : List ℕ → ℕ
+widthAt bs = at bs 0
+
+abbrev pub sizeAt : ℕ → List ℕ → ℕ
+sizeAt L bs = 1 + payloadSize L (widthAt bs)
+
+abbrev pub entryAt : ℕ → List ℕ → ℕ → ℕ
+entryAt L bs = payloadEntry L (widthAt bs) (drop 1 bs)
+
+abbrev pub entriesAt : ℕ → ℕ → List ℕ → List ℕ
+entriesAt L k bs = table (entryAt L bs) k
+
+abbrev pub valuesAt : ℕ → Mode → ℕ → List ℕ → List ℕ
+valuesAt L m k bs = valuesOf m (entriesAt L k bs)
+
+-- "5 (no width byte), 2, 5, ..": whether a block stands there
+unfoldable pub frameRefusal : ℕ → List ℕ → Refusal
+frameRefusal L bs =
+    refuse (ltb (length bs) 1) CutShort
+    (refuse (ltb 32 (widthAt bs)) BadWidth
+    (refuse (ltb (length bs) (sizeAt L bs)) CutShort
+    Accepted))
+
+-- ".. 10, 9, ..": whether its entries are as they are written. Filling is of 0 where it fits width 0.
+unfoldable pub entriesRefusal : ℕ → ℕ → ℕ → (ℕ → ℕ) → Refusal
+entriesRefusal L k n e =
+    refuse (not (fits (λ i. e (k + i)) (blockSize L - k) 0)) BadFill
+    (refuse (not (eqb n (leastWidth e (blockSize L)))) NotLeast
+    Accepted)
+
+-- the bytes of a block: both of these
+unfoldable pub shapeRefusal : ℕ → ℕ → List ℕ → Refusal
+shapeRefusal L k bs = orElse (frameRefusal L bs) (entriesRefusal L k (widthAt bs) (entryAt L bs))
+
+-- ".. 8": what values that come next are refused for, in reading and in writing
+abbrev pub valuesRefusal : Mode → List ℕ → Refusal
+valuesRefusal m vs = refuse (not (ordered m vs)) OutOfOrder Accepted
+
+-- a block. "The values that filling stands for are not part of the list and are not tested for order."
+unfoldable pub blockRefusal : ℕ → Mode → ℕ → List ℕ → Refusal
+blockRefusal L m k bs = orElse (shapeRefusal L k bs) (valuesRefusal m (valuesAt L m k bs))
+
+-- "then block by block ..; at the end 11": b blocks of count values in all
+unfoldable pub refusalFrom : ℕ → Mode → ℕ → List ℕ → ℕ → Refusal
+refusalFrom L m count bs zero = refuse (ltb 0 (length bs)) LeftOver Accepted
+refusalFrom L m count bs (suc b) =
+    orElse (blockRefusal L m (min (blockSize L) count) bs)
+    (refusalFrom L (afterAll m (valuesAt L m (min (blockSize L) count) bs)) (count - blockSize L) (drop (sizeAt L bs) bs) b)
+
+abbrev pub bodyRefusal : ℕ → Mode → ℕ → List ℕ → Refusal
+bodyRefusal L m count bs = refusalFrom L m count bs (blocks L count)
+
+-- the list's own entries of b blocks
+unfoldable pub entriesFrom : ℕ → ℕ → List ℕ → ℕ → List ℕ
+entriesFrom L count bs zero = []
+entriesFrom L count bs (suc b) = entriesAt L (min (blockSize L) count) bs ++ entriesFrom L (count - blockSize L) (drop (sizeAt L bs) bs) b
+
+-- the list of count values that is read from the body bs
+unfoldable pub listOf : ℕ → Mode → ℕ → List ℕ → List ℕ
+listOf L m count bs = valuesOf m (entriesFrom L count bs (blocks L count))

@@ -1,0 +1,6 @@
+pub mod Fronts
+pub mod BlockCalls
+pub mod Checks
+pub mod Fetches
+pub mod Stores
+pub mod Accepts

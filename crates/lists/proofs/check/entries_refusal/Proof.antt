@@ -1,0 +1,54 @@
+-- Filling and then the least width, as the definition has them.
+use mathlib.Core.Path.{_≡_, sym, _∙_}
+use mathlib.Core.Bool.{true}
+use native.Mathlib.Omega.{arith}
+use borrow.Author.Tests.{eq-eqb, ne-eqb, not-true, not-false}
+use lib.ListN.{length}
+use Rattle.layout.specs.Layout.{at, blockSize}
+use Rattle.layout.specs.Width.{leastWidth}
+use Rattle.bodies.specs.Reading.{entriesRefusal}
+use Rattle.lists.proofs.BlockCalls.{width-is}
+use Rattle.lists.proofs.Checks.{fill-part}
+use borrow.Author.Needs.{needs}
+use Rattle.lists.proofs.check.entries_refusal.Statement.{statement}
+use Rattle.lists.proofs.check.entries_refusal.Tie as tie
+
+returns : tie.Need-returns
+unfolding entriesRefusal
+returns c =
+    let s = c .before .before .before .before in
+    rw (sym (fill-part (s .args .lanes) (s .args .count) (s .args .entries .now) (s .pre .2)) ∙ sym (c .before .zeros .ensures) ∙ not-true _ (c .if1 .taken))
+
+returns-2 : tie.Need-returns-2
+unfolding entriesRefusal
+returns-2 c =
+    let e = c .before .before .before in
+    let s = e .before .before .before .before in
+    rw (
+      sym (fill-part (s .args .lanes) (s .args .count) (s .args .entries .now) (s .pre .2)) ∙ sym (e .before .zeros .ensures) ∙ not-false _ (e .if1 .left),
+      ne-eqb (s .args .width) (leastWidth (at (s .args .entries .now)) (blockSize (s .args .lanes))) (λ q. c .if2 .taken (q ∙ sym (width-is _ (s .pre .0) (s .args .entries .now) (s .pre .2) (c .before .before .num-bits .ensures)))),
+    )
+
+returns-3 : tie.Need-returns-3
+unfolding entriesRefusal
+returns-3 c =
+    let e = c .before .before .before in
+    let s = e .before .before .before .before in
+    rw (
+      sym (fill-part (s .args .lanes) (s .args .count) (s .args .entries .now) (s .pre .2)) ∙ sym (e .before .zeros .ensures) ∙ not-false _ (e .if1 .left),
+      eq-eqb (s .args .width) (leastWidth (at (s .args .entries .now)) (blockSize (s .args .lanes))) (c .if2 .left ∙ width-is _ (s .pre .0) (s .args .entries .now) (s .pre .2) (c .before .before .num-bits .ensures)),
+    )
+
+pub entries-refusal-spec : {M : Type 1} → statement M
+entries-refusal-spec =
+    tie.close
+    (tie.spec
+    (search needs)
+    (search needs)
+    (search needs)
+    (search needs)
+    (search needs)
+    returns
+    (search needs)
+    returns-2
+    returns-3)

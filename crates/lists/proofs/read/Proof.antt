@@ -1,0 +1,52 @@
+-- A refusal is passed on with length 0 and nothing written; else the tested body is written out.
+use mathlib.Core.Path.{_≡_, refl, sym, _∙_}
+use mathlib.Core.Bool.{true}
+use borrow.Author.Tests.{not-true, not-false}
+use lib.ListN.{length}
+use Rattle.blocks.specs.Refusals.{accepted}
+use Rattle.blocks.proofs.Answers.{refused, untouched, answered, overwritten}
+use Rattle.bodies.specs.Body.{blocks}
+use Rattle.bodies.specs.Reading.{listOf}
+use Rattle.lists.proofs.Accepts.{Readable, read-exactly}
+use Rattle.lists.proofs.Fetches.{frames-good}
+use borrow.Author.Needs.{needs}
+use Rattle.lists.proofs.read.Statement.{statement}
+use Rattle.lists.proofs.read.Tie as tie
+
+yes-accepted : (c : tie.Else1) → accepted (c .before .before .read-refusal .result) ≡ true
+yes-accepted c = sym (c .before .is-accepted .ensures) ∙ not-false _ (c .if1 .left)
+
+able : (c : tie.Else1) → Readable (c .before .before .before .before .before .args .lanes) (c .before .before .before .before .before .args .mode) (c .before .before .before .before .before .args .count) (c .before .before .before .before .before .args .body .now) (length (c .before .before .before .before .before .args .values .now))
+able c = read-exactly _ _ _ _ _ .0 (rw (c .before .before .read-refusal .ensures) at (yes-accepted c))
+
+returns : tie.Need-returns
+returns c =
+    let k = c .before .before .read-refusal .ensures in
+    let h = sym (c .before .is-accepted .ensures) ∙ not-true _ (c .if1 .taken) in
+    let a = c .before .before .before .before .before .args in
+    (refused k h _, untouched k h (listOf (a .lanes) (a .mode) (a .count) (a .body .now)) _)
+
+fetch-body-requires : tie.Need-fetch-body-requires
+fetch-body-requires c κs =
+    let p = able (c .before) in
+    let a = c .before .before .before .before .before .before .args in
+    (p .lanes, p .few, p .enough, frames-good (blocks (a .lanes) (a .count)) _ _ _ (a .body .now) (p .body))
+
+returns-2 : tie.Need-returns-2
+returns-2 c =
+    let d = c .before .before in
+    let e = d .before .before in
+    let k = e .before .before .read-refusal .ensures in
+    let a = e .before .before .before .before .before .args in
+    (answered k (yes-accepted e) refl, overwritten k (yes-accepted e) (listOf (a .lanes) (a .mode) (a .count) (a .body .now)) (a .values .now) (d .fetch-body .ensures))
+
+pub read-spec : {M : Type 1} → statement M
+read-spec =
+    tie.close
+    (tie.spec
+    (search needs)
+    (search needs)
+    returns
+    fetch-body-requires
+    (search needs)
+    returns-2)

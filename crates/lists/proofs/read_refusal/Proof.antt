@@ -1,0 +1,40 @@
+-- Each test is the definition's, in its order.
+use mathlib.Core.Path.{_≡_, sym, _∙_}
+use mathlib.Core.Bool.{true}
+use borrow.Author.Tests.{lt-ltb, le-ltb, not-true, not-false}
+use Rattle.blocks.specs.Calls.{isLanes}
+use borrow.Author.Needs.{needs}
+use Rattle.lists.proofs.read_refusal.Statement.{statement}
+use Rattle.lists.proofs.read_refusal.Tie as tie
+
+good : (c : tie.Else1) → isLanes (c .before .before .before .args .lanes) ≡ true
+good c = sym (c .before .is-lanes .ensures) ∙ not-false _ (c .if1 .left)
+
+returns : tie.Need-returns
+returns c = rw (sym (c .before .is-lanes .ensures) ∙ not-true _ (c .if1 .taken))
+
+returns-2 : tie.Need-returns-2
+returns-2 c = rw (good (c .before), lt-ltb 4096 _ (c .if2 .taken))
+
+returns-3 : tie.Need-returns-3
+returns-3 c = rw (good (c .before .before), le-ltb 4096 _ (c .before .if2 .left), lt-ltb _ _ (c .if3 .taken))
+
+body-refusal-requires : tie.Need-body-refusal-requires
+body-refusal-requires c κs = (good (c .before .before .before), c .before .before .if2 .left)
+
+returns-4 : tie.Need-returns-4
+returns-4 c =
+    let e = c .before .before in
+    rw (good (e .before .before), le-ltb 4096 _ (e .before .if2 .left), le-ltb _ _ (e .if3 .left)) (c .body-refusal .ensures ∙ rw (c .before .opened .ensures))
+
+pub read-refusal-spec : {M : Type 1} → statement M
+read-refusal-spec =
+    tie.close
+    (tie.spec
+    (search needs)
+    returns
+    returns-2
+    returns-3
+    (search needs)
+    body-refusal-requires
+    returns-4)

@@ -1,0 +1,46 @@
+-- The list calls of document 01: which refusal each gives, what it answers, and what it leaves in lent memory.
+use mathlib.Core.Bool.{not}
+use mathlib.Core.List.{List}
+use Prim.Native.Nat.{ℕ}
+use lib.Dec.{ltb}
+use lib.ListN.{length}
+use Rattle.modes.specs.declared.Mode.{Mode}
+use Rattle.blocks.specs.declared.Answer.{Answer}
+use Rattle.blocks.specs.declared.refusal.Refusal.{Refusal}
+use Rattle.blocks.specs.declared.refusal.Refusal.the-variants.{Accepted, BadLanes, NoRoom, TooMany}
+use Rattle.blocks.specs.Refusals.{refuse}
+use Rattle.blocks.specs.Calls.{isLanes, answer, written}
+use Rattle.order.specs.Order.{most, opened}
+use Rattle.bodies.specs.Body.{bodyOf}
+use Rattle.bodies.specs.Reading.{orElse, valuesRefusal, bodyRefusal, listOf}
+
+-- "Write a list: 1, 7, 8, 4", for the values vs and an output of `room` bytes
+abbrev pub writeRefusal : ℕ → Mode → List ℕ → ℕ → Refusal
+writeRefusal L m vs room =
+    refuse (not (isLanes L)) BadLanes
+    (refuse (ltb most (length vs)) TooMany
+    (orElse (valuesRefusal (opened m) vs)
+    (refuse (ltb room (length (bodyOf L m vs))) NoRoom
+    Accepted)))
+
+-- the body's length, and the body at the front of the output
+abbrev pub writeAnswer : ℕ → Mode → List ℕ → ℕ → Answer
+writeAnswer L m vs room = answer (writeRefusal L m vs room) (length (bodyOf L m vs))
+
+abbrev pub writeOutput : ℕ → Mode → List ℕ → List ℕ → List ℕ
+writeOutput L m vs before = written (writeRefusal L m vs (length before)) (bodyOf L m vs) before
+
+-- "Read a list: 1, 7, 4; then block by block ..", for the body bs and an output of `room` values
+abbrev pub readRefusal : ℕ → Mode → ℕ → List ℕ → ℕ → Refusal
+readRefusal L m count bs room =
+    refuse (not (isLanes L)) BadLanes
+    (refuse (ltb most count) TooMany
+    (refuse (ltb room count) NoRoom
+    (bodyRefusal L (opened m) count bs)))
+
+-- the count, and the list at the front of the output
+abbrev pub readAnswer : ℕ → Mode → ℕ → List ℕ → ℕ → Answer
+readAnswer L m count bs room = answer (readRefusal L m count bs room) count
+
+abbrev pub readOutput : ℕ → Mode → ℕ → List ℕ → List ℕ → List ℕ
+readOutput L m count bs before = written (readRefusal L m count bs (length before)) (listOf L m count bs) before

@@ -1,0 +1,81 @@
+// The two list calls of document 01. Each takes any input, tests all of it before it writes anything, and writes nothing where it refuses.
+use blocks::Answer;
+use blocks::is_lanes;
+use blocks::refusal::Refusal;
+use check::body_refusal;
+use fetch::fetch_body;
+use modes::Mode;
+use order::in_order;
+use order::opened;
+use store::body_length;
+use store::store_body;
+ghost use mathlib.Core.Path.{_≡_};
+ghost use lib.ListN.{length};
+ghost use Rattle.lists.specs.Calls.{writeRefusal, writeAnswer, writeOutput, readRefusal, readAnswer, readOutput};
+
+mod blocked;
+mod check;
+mod fetch;
+mod store;
+
+fn write_refusal(lanes: usize, mode: Mode, values: &[u32], room: usize) -> Refusal
+    ensures { λ r. ⌜ r ≡ writeRefusal lanes mode (now (values .entry)) room ⌝ }
+{
+    if !is_lanes(lanes) {
+        return Refusal::BadLanes;
+    }
+    if 4096 < values.len() {
+        return Refusal::TooMany;
+    }
+    if !in_order(opened(mode), values) {
+        return Refusal::OutOfOrder;
+    }
+    if room < body_length(lanes, mode, values) {
+        return Refusal::NoRoom;
+    }
+    Refusal::Accepted
+}
+
+// Write a list: its body, at the front of `body`. Answers the body's length.
+pub fn write(lanes: usize, mode: Mode, values: &[u32], body: &mut [u8]) -> Answer
+    ensures { λ r. ⌜ r ≡ writeAnswer lanes mode (now (values .entry)) (length (now (body .entry))) ⌝ }
+    ensures { λ r. ⌜ now (body .exit) ≡ writeOutput lanes mode (now (values .entry)) (now (body .entry)) ⌝ }
+{
+    let refusal = write_refusal(lanes, mode, values, body.len());
+    if !refusal.is_accepted() {
+        return Answer { refusal, length: 0 };
+    }
+    let length = store_body(lanes, mode, values, &mut body[..]);
+    Answer { refusal, length }
+}
+
+fn read_refusal(lanes: usize, mode: Mode, count: usize, body: &[u8], room: usize) -> Refusal
+    ensures { λ r. ⌜ r ≡ readRefusal lanes mode count (now (body .entry)) room ⌝ }
+{
+    if !is_lanes(lanes) {
+        return Refusal::BadLanes;
+    }
+    if 4096 < count {
+        return Refusal::TooMany;
+    }
+    if room < count {
+        return Refusal::NoRoom;
+    }
+    body_refusal(lanes, opened(mode), count, body)
+}
+
+// Read a list: the only list of `count` values that has this body, at the front of `values`. Answers the count.
+pub fn read(lanes: usize, mode: Mode, count: usize, body: &[u8], values: &mut [u32]) -> Answer
+    ensures { λ r. ⌜ r ≡ readAnswer lanes mode count (now (body .entry)) (length (now (values .entry))) ⌝ }
+    ensures { λ r. ⌜ now (values .exit) ≡ readOutput lanes mode count (now (body .entry)) (now (values .entry)) ⌝ }
+{
+    let refusal = read_refusal(lanes, mode, count, body, values.len());
+    if !refusal.is_accepted() {
+        return Answer { refusal, length: 0 };
+    }
+    fetch_body(lanes, mode, count, body, &mut values[..]);
+    Answer {
+        refusal,
+        length: count,
+    }
+}

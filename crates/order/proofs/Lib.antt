@@ -1,0 +1,4 @@
+pub mod Steps
+pub mod Openings
+pub mod Going
+pub mod Blockwise

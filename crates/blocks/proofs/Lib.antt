@@ -5,4 +5,3 @@ pub mod Unpacking
 pub mod Tests
 pub mod Answers
 pub mod Trips
-pub mod Starred

@@ -4,3 +4,5 @@ pub mod Checks
 pub mod Fetches
 pub mod Stores
 pub mod Accepts
+pub mod Demand
+pub mod Starred

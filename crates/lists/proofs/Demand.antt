@@ -1,0 +1,100 @@
+-- Demand 3 holds.
+use mathlib.Core.Path.{_≡_, refl, sym, _∙_, ap}
+use mathlib.Core.Bool.{true, cond}
+use mathlib.Core.List.{List, _++_}
+use Prim.Native.Nat.{ℕ, _^_, _≤_, _<_}
+use lib.ListN.{length, take}
+use Rattle.layout.specs.Layout.{Below}
+use Rattle.modes.specs.declared.Mode.{Mode}
+use Rattle.modes.specs.Entries.{firstOf}
+use Rattle.blocks.specs.declared.Answer.{Answer}
+use Rattle.blocks.specs.declared.refusal.Refusal.{Refusal}
+use Rattle.blocks.specs.declared.refusal.Refusal.the-variants.{Accepted}
+use Rattle.blocks.specs.Refusals.{accepted}
+use Rattle.blocks.specs.Calls.{isLanes, answer, over, written}
+use Rattle.blocks.proofs.Tests.{lanes-of, accepted-is}
+use Rattle.order.specs.Order.{IsList, opened, entriesOf, valuesOf}
+use Rattle.order.proofs.Steps.{length-entries, length-values, entries-small, values-small, values-entries, entries-values}
+use Rattle.order.proofs.Openings.{opened-first, opened-values}
+use Rattle.bodies.specs.Body.{blocks, blocksOf, bodyOf}
+use Rattle.bodies.specs.Reading.{entriesFrom, listOf}
+use Rattle.bodies.proofs.Whole.{Written, sound, Had, complete, blocks-enough}
+use Rattle.lists.specs.Calls.{writeRefusal, writeOutput, readRefusal, readOutput}
+use Rattle.lists.specs.Demand.{Holds, Reads, Writes}
+use Rattle.lists.proofs.Accepts.{write-exactly, read-exactly}
+use Rattle.lists.proofs.Fronts.{take-over}
+
+-- what an accepted call answers and leaves
+accepted-answer : (k : Refusal) (size : ℕ) → accepted k ≡ true → answer k size ≡ record { refusal = Accepted; length = size }
+accepted-answer k size h = rw (accepted-is k h)
+
+accepted-output : (k : Refusal) (new before : List ℕ) → accepted k ≡ true → written k new before ≡ over new before
+accepted-output k new before h = rw h
+
+module _ (L : ℕ) (m : Mode) (lanes : isLanes L ≡ true) (first : firstOf m < 2 ^ 32) where
+  -- what is accepted is the body of a list of that count: of the one that is read
+  pub list-read : (count room : ℕ) (bs : List ℕ) → Below 256 bs → accepted (readRefusal L m count bs room) ≡ true → Holds L m count bs (listOf L m count bs)
+  unfolding listOf bodyOf
+  list-read count room bs bytes h =
+      let b : ℕ = blocks L count in
+      let es : List ℕ = entriesFrom L count bs b in
+      let r = read-exactly L m count bs room .0 h in
+      let w : Written L (opened m) count bs b es = sound b L (opened m) count bs (blocks-enough L count (lanes-of L lanes .0)) (rw (opened-first m) first) bytes (r .body) in
+      let size : length (valuesOf m es) ≡ count = length-values m es ∙ w .size in
+      record {
+        list = record { size = size; few = r .few; small = values-small m es (w .small); order = rw (← opened-values m es) (w .order) };
+        body = rw (entries-values m es first (w .small), size) (w .body);
+      }
+
+  -- the body of a list is accepted, and the list is read from it
+  module _ {count : ℕ} {bs vs : List ℕ} (h : Holds L m count bs vs) where
+    had : Had L (opened m) count bs (blocks L count) (entriesOf m vs)
+    unfolding bodyOf
+    had =
+        let es : List ℕ = entriesOf m vs in
+        let size : length es ≡ count = length-entries m vs ∙ h .list .size in
+        let whole : Had L (opened m) (length es) (blocksOf L es (blocks L count)) (blocks L count) es =
+        complete (blocks L count) L (opened m) es (rw size (blocks-enough L count (lanes-of L lanes .0))) (entries-small m vs (h .list .small))
+        (rw (opened-values m es, values-entries m vs first (h .list .small)) (h .list .order)) in
+        let body : bs ≡ blocksOf L es (blocks L count) = h .body ∙ rw (h .list .size) in
+        rw body (rw size at whole)
+
+    pub body-accepted : (room : ℕ) → count ≤ room → accepted (readRefusal L m count bs room) ≡ true
+    body-accepted room enough = read-exactly L m count bs room .1 (record { lanes = lanes; few = h .list .few; enough = enough; body = had .none })
+
+    pub list-back : listOf L m count bs ≡ vs
+    unfolding listOf
+    list-back = ap (valuesOf m) (had .list) ∙ values-entries m vs first (h .list .small)
+
+  -- the theorem: of reading,
+  pub demand-reads : (count : ℕ) (bs before : List ℕ) → Below 256 bs → count ≤ length before → Reads L m count bs before
+  demand-reads count bs before bytes enough =
+      record {
+        exactly = ((λ h. (listOf L m count bs, list-read count (length before) bs bytes h)), λ x. body-accepted (x .1) (length before) enough);
+        only = λ vs ws a b. sym (list-back a) ∙ list-back b;
+        answered = λ vs h. accepted-answer (readRefusal L m count bs (length before)) count (body-accepted h (length before) enough);
+        returned = λ vs h. accepted-output (readRefusal L m count bs (length before)) (listOf L m count bs) before (body-accepted h (length before) enough) ∙ ap (λ (t : List ℕ). over t before) (list-back h);
+      }
+
+  -- and of writing
+  pub demand-writes : (count : ℕ) (vs before : List ℕ) → IsList m count vs → length (bodyOf L m vs) ≤ length before → Writes L m vs before
+  demand-writes count vs before l enough =
+      let ok : accepted (writeRefusal L m vs (length before)) ≡ true = write-exactly L m vs (length before) .1 (record { lanes = lanes; few = rw (l .size) (l .few); order = l .order; enough = enough }) in
+      record {
+        answered = accepted-answer (writeRefusal L m vs (length before)) (length (bodyOf L m vs)) ok;
+        written = accepted-output (writeRefusal L m vs (length before)) (bodyOf L m vs) before ok;
+      }
+
+  -- two lists of one count with one body are equal
+  pub one-list : (count : ℕ) (vs ws : List ℕ) → IsList m count vs → IsList m count ws → bodyOf L m vs ≡ bodyOf L m ws → vs ≡ ws
+  one-list count vs ws a b e = sym (list-back (record { list = a; body = refl })) ∙ list-back (record { list = b; body = e })
+
+  -- reading what was written gives the list back
+  pub read-back : (count : ℕ) (vs before out : List ℕ) → IsList m count vs → length (bodyOf L m vs) ≤ length before → count ≤ length out
+      → readOutput L m count (take (length (bodyOf L m vs)) (writeOutput L m vs before)) out ≡ over vs out
+  read-back count vs before out l enough room =
+      let wrote : take (length (bodyOf L m vs)) (writeOutput L m vs before) ≡ bodyOf L m vs =
+      ap (take (length (bodyOf L m vs))) (demand-writes count vs before l enough .written) ∙ take-over (length (bodyOf L m vs)) (bodyOf L m vs) before refl in
+      let h : Holds L m count (bodyOf L m vs) vs = record { list = l; body = refl } in
+      ap (λ (t : List ℕ). readOutput L m count t out) wrote
+      ∙ accepted-output (readRefusal L m count (bodyOf L m vs) (length out)) (listOf L m count (bodyOf L m vs)) out (body-accepted h (length out) room) ∙ ap (λ (t : List ℕ). over t out) (list-back h)

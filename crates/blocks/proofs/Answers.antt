@@ -7,7 +7,8 @@ use Rattle.blocks.specs.declared.Answer.{Answer}
 use Rattle.blocks.specs.declared.Width.{Width}
 use Rattle.blocks.specs.declared.refusal.Refusal.{Refusal}
 use Rattle.blocks.specs.Refusals.{accepted}
-use Rattle.blocks.specs.Calls.{answer, over, written}
+use Rattle.blocks.specs.Calls.{answer, written}
+use Rattle.layout.specs.Layout.{over}
 
 -- k is what the call was given, and j what the definition gives
 module _ {k j : Refusal} (e : k ≡ j) where

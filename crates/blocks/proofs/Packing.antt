@@ -7,9 +7,8 @@ use native.Mathlib.Omega.{arith}
 use native.Mathlib.Decide.{decLt}
 use lib.Bits.{bitOr}
 use lib.ListN.{length}
-use Rattle.layout.specs.Layout.{at, payloadSize, number, entryBits, payloadByte, packed}
+use Rattle.layout.specs.Layout.{at, payloadSize, number, entryBits, payloadByte, packed, over}
 use Rattle.lanes.specs.Rows.{IsRow}
-use Rattle.blocks.specs.Calls.{over}
 use Rattle.blocks.specs.kernel.Places.{WordsStored}
 use Rattle.layout.proofs.Strings.{number-shr, number-byte, join-short, join-long}
 use Rattle.layout.proofs.Products.{one-more, below-mul}

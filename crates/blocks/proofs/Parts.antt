@@ -2,24 +2,14 @@
 use mathlib.Core.Path.{_≡_, sym, _∙_, ap, subst}
 use mathlib.Core.List.{List, [], _++_, append-nil}
 use Prim.Native.Nat.{ℕ, _+_, _*_, _-_, _/_, _%_, _^_, _≤_, _<_}
-use native.Mathlib.Nat.{le-refl, zero-add}
+use native.Mathlib.Nat.{zero-add}
 use native.Mathlib.Omega.{arith}
-use lib.ListN.{length, take, drop, length-drop, List·getD-append}
-use lib.Seq.{take-all, getD-drop, getD-take, getD-append-add, length-take-le, drop-length}
+use lib.ListN.{length, take, List·getD-append}
+use lib.Seq.{getD-take, getD-append-add, length-take-le, drop-length}
 use borrow.Rule.Slice.PartMut.{midOf, putMid, postOf, post-is, same-len-mid}
 use Rattle.layout.specs.Layout.{at, wordAt}
+use Rattle.layout.proofs.Parts.{part-at}
 use Rattle.blocks.specs.kernel.Places.{WordsStored, RowStored}
-
--- the part is what is left of the list
-pub part-is : (a : ℕ) (xs : List ℕ) → midOf a (length xs - a) xs ≡ drop a xs
-part-is a xs = take-all (length xs - a) (drop a xs) (simp length-drop (le-refl (length xs - a)))
-
-pub part-length : (a : ℕ) (xs : List ℕ) → length (midOf a (length xs - a) xs) ≡ length xs - a
-part-length a xs = ap length (part-is a xs) ∙ length-drop a xs
-
--- element k of the part is element a + k of the list
-pub part-at : (a : ℕ) (xs : List ℕ) (k : ℕ) → at (midOf a (length xs - a) xs) k ≡ at xs (a + k)
-part-at a xs k = rw (part-is a xs) (getD-drop a xs k 0)
 
 -- the word at byte i of the part
 pub part-word : (a : ℕ) (xs : List ℕ) (i : ℕ) → wordAt (midOf a (length xs - a) xs) i ≡ wordAt xs (a + i)

@@ -67,8 +67,8 @@ size-exactly L n = (there, λ s. rw (s .lanes, le-ltb 32 n (s .width)))
   where
     there : accepted (sizeRefusal L n) ≡ true → Sizable L n
     there h =
-        let a = passed (not (isLanes L)) BadLanes (refuse (ltb 32 n) BadWidth Accepted) refl h in
-        let b = passed (ltb 32 n) BadWidth Accepted refl (a .1) in
+        let a = passed _ BadLanes (refuse (ltb 32 n) BadWidth Accepted) refl h in
+        let b = passed _ BadWidth Accepted refl (a .1) in
         record { lanes = not-false _ (a .0); width = ltb-false 32 n (b .0) }
 
 -- what packing accepts
@@ -87,11 +87,11 @@ pack-exactly L m vs room n = (
   where
     there : accepted (packRefusal L m vs room n) ≡ true → Packable L m vs room n
     there h =
-        let a = passed (not (isLanes L)) BadLanes _ refl h in
-        let b = passed (ltb 32 n) BadWidth _ refl (a .1) in
-        let c = passed (not (eqb (length vs) (blockSize L))) BadBlock _ refl (b .1) in
-        let d = passed (ltb room (payloadSize L n)) NoRoom _ refl (c .1) in
-        let e = passed (not (fits (entries m (at vs)) (blockSize L) n)) TooWide _ refl (d .1) in
+        let a = passed _ BadLanes _ refl h in
+        let b = passed _ BadWidth _ refl (a .1) in
+        let c = passed _ BadBlock _ refl (b .1) in
+        let d = passed _ NoRoom _ refl (c .1) in
+        let e = passed _ TooWide _ refl (d .1) in
         record {
           lanes = not-false _ (a .0);
           width = ltb-false 32 n (b .0);
@@ -115,10 +115,10 @@ unpack-exactly L size room n = (
   where
     there : accepted (unpackRefusal L size room n) ≡ true → Unpackable L size room n
     there h =
-        let a = passed (not (isLanes L)) BadLanes _ refl h in
-        let b = passed (ltb 32 n) BadWidth _ refl (a .1) in
-        let c = passed (ltb room (blockSize L)) NoRoom _ refl (b .1) in
-        let d = passed (ltb size (payloadSize L n)) CutShort _ refl (c .1) in
+        let a = passed _ BadLanes _ refl h in
+        let b = passed _ BadWidth _ refl (a .1) in
+        let c = passed _ NoRoom _ refl (b .1) in
+        let d = passed _ CutShort _ refl (c .1) in
         record {
           lanes = not-false _ (a .0);
           width = ltb-false 32 n (b .0);
@@ -136,6 +136,6 @@ width-exactly L count = (there, λ s. rw (s .lanes, eq-eqb count (blockSize L) (
   where
     there : accepted (widthRefusal L count) ≡ true → Measurable L count
     there h =
-        let a = passed (not (isLanes L)) BadLanes (refuse (not (eqb count (blockSize L))) BadBlock Accepted) refl h in
-        let b = passed (not (eqb count (blockSize L))) BadBlock Accepted refl (a .1) in
+        let a = passed _ BadLanes (refuse (not (eqb count (blockSize L))) BadBlock Accepted) refl h in
+        let b = passed _ BadBlock Accepted refl (a .1) in
         record { lanes = not-false _ (a .0); block = eqb-true count (blockSize L) (not-false _ (b .0)) }

@@ -7,7 +7,7 @@ use native.Mathlib.Nat.{lt-of-lt-of-le}
 use native.Mathlib.Omega.{arith}
 use lib.ListN.{length, take, drop, length-append}
 use lib.Pow.{pow-mono}
-use Rattle.layout.specs.Layout.{at, blockSize, payloadSize, packed, payloadEntry}
+use Rattle.layout.specs.Layout.{at, blockSize, payloadSize, packed, payloadEntry, over}
 use Rattle.layout.specs.Width.{fits}
 use Rattle.layout.proofs.Tables.{table-at, table-of, length-packed}
 use Rattle.layout.proofs.RoundTrip.{entry-packed, packed-entry, packed-ext, entry-fits}
@@ -15,7 +15,7 @@ use Rattle.layout.proofs.Widths.{fits-of, of-fits}
 use Rattle.modes.specs.declared.Mode.{Mode}
 use Rattle.modes.specs.Entries.{firstOf, entries, values}
 use Rattle.modes.proofs.Undo.{values-entries, entries-values, entries-ext, values-ext}
-use Rattle.blocks.specs.Calls.{over, unpacked, packRefusal, unpackRefusal, packOutput, unpackOutput}
+use Rattle.blocks.specs.Calls.{unpacked, packRefusal, unpackRefusal, packOutput, unpackOutput}
 use Rattle.blocks.proofs.Tests.{Packable, pack-exactly, unpack-exactly}
 use Rattle.blocks.proofs.Answers.{overwritten}
 

@@ -7,9 +7,8 @@ use native.Mathlib.Omega.{arith}
 use native.Mathlib.Decide.{decLt}
 use lib.Bits.{bitOr, bitAnd, and-mask}
 use lib.ListN.{length}
-use Rattle.layout.specs.Layout.{at, blockSize, payloadSize, number, table, byteBits, payloadEntry, wordAt}
+use Rattle.layout.specs.Layout.{at, blockSize, payloadSize, number, table, byteBits, payloadEntry, wordAt, over}
 use Rattle.lanes.specs.Rows.{IsRow}
-use Rattle.blocks.specs.Calls.{over}
 use Rattle.blocks.specs.kernel.Places.{RowStored}
 use Rattle.blocks.specs.kernel.Registers.{Held, bitsLeft}
 use Rattle.layout.proofs.Strings.{number-shr, number-mod, join-long}

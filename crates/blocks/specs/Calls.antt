@@ -1,10 +1,10 @@
 -- "Block calls" of document 01: which refusal each call gives, what it answers, and what it leaves in lent memory.
 use mathlib.Core.Bool.{Bool, not, _||_, cond}
-use mathlib.Core.List.{List, _++_}
+use mathlib.Core.List.{List}
 use Prim.Native.Nat.{ℕ}
 use lib.Dec.{ltb, eqb}
-use lib.ListN.{length, drop}
-use Rattle.layout.specs.Layout.{at, blockSize, payloadSize, table, packed, payloadEntry}
+use lib.ListN.{length}
+use Rattle.layout.specs.Layout.{at, over, blockSize, payloadSize, table, packed, payloadEntry}
 use Rattle.layout.specs.Width.{fits, leastWidth}
 use Rattle.modes.specs.declared.Mode.{Mode}
 use Rattle.modes.specs.Entries.{entries, values}
@@ -21,10 +21,6 @@ isLanes L = eqb L 1 || eqb L 4 || eqb L 8
 -- the size where it is accepted, and else "Each returns its number, length 0"
 abbrev pub answer : Refusal → ℕ → Answer
 answer k size = record { refusal = k; length = cond (accepted k) size 0 }
-
--- "Memory past those is unchanged": new at the front, and the rest as before
-abbrev pub over : List ℕ → List ℕ → List ℕ
-over new before = new ++ drop (length new) before
 
 -- ".. and leaves lent memory unchanged."
 abbrev pub written : Refusal → List ℕ → List ℕ → List ℕ

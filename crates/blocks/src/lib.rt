@@ -17,7 +17,7 @@ mod rows;
 mod unpack;
 mod words;
 
-// The refusal and the length in bytes: 0 where it is refused.
+// The refusal and a length, 0 where it is refused: of a payload or a body in bytes, of a list that is read its count of values.
 pub struct Answer {
     pub refusal: Refusal,
     pub length: usize,

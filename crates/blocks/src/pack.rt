@@ -12,10 +12,9 @@ ghost use mathlib.Core.Path.{_≡_};
 ghost use mathlib.Core.Bool.{true};
 ghost use Prim.Native.Nat.{_≤_, _<_};
 ghost use lib.ListN.{length};
-ghost use Rattle.layout.specs.Layout.{at, blockSize, payloadSize, packed};
+ghost use Rattle.layout.specs.Layout.{at, blockSize, payloadSize, packed, over};
 ghost use Rattle.layout.specs.Width.{fits};
 ghost use Rattle.modes.specs.Entries.{entries};
-ghost use Rattle.blocks.specs.Calls.{over};
 
 // Each row of entries goes on top of the bits that are held, and a word that is full is stored.
 pub(crate) fn pack(lanes: usize, mode: Mode, values: &[u32], out: &mut [u8], width: u32)

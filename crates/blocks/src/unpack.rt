@@ -12,8 +12,8 @@ use modes::process;
 ghost use mathlib.Core.Path.{_≡_};
 ghost use Prim.Native.Nat.{ℕ, _+_, _*_, _-_, _^_, _≤_, _<_};
 ghost use lib.ListN.{length};
-ghost use Rattle.layout.specs.Layout.{at, blockSize, payloadSize, payloadEntry};
-ghost use Rattle.blocks.specs.Calls.{over, unpacked};
+ghost use Rattle.layout.specs.Layout.{at, blockSize, payloadSize, payloadEntry, over};
+ghost use Rattle.blocks.specs.Calls.{unpacked};
 ghost use Rattle.blocks.specs.kernel.Registers.{Held};
 
 // width bits, all 1.

@@ -2,20 +2,19 @@
 use mathlib.Core.Path.{_≡_, refl, sym, _∙_, ap}
 use mathlib.Core.Bool.{true}
 use mathlib.Core.List.{List, [], _∷_, _++_}
-use Prim.Native.Nat.{ℕ, zero, suc, _+_, _-_, _^_, _≤_, _<_}
+use Prim.Native.Nat.{ℕ, _+_, _-_, _^_, _≤_, _<_}
 use native.Mathlib.Nat.{lt-of-lt-of-le}
 use native.Mathlib.Numerals.{one-add}
 use native.Mathlib.Omega.{arith}
 use native.Mathlib.Decide.{decLt}
 use lib.ListN.{length, take, drop, length-append, length-drop, List·getD-eq-default, take-append-drop}
 use lib.Pow.{pow-mono}
-use lib.Seq.{drop-at, getD-drop}
+use lib.Seq.{drop-at}
 use Rattle.layout.specs.Layout.{at, Below, blockSize, payloadSize, packed}
-use Rattle.layout.specs.Width.{leastWidth}
 use Rattle.layout.proofs.Below.{below-drop, below-table, table-past}
-use Rattle.layout.proofs.Tables.{length-table, table-at, table-of, table-ext, length-packed}
+use Rattle.layout.proofs.Tables.{table-at, table-of, table-ext, length-packed}
 use Rattle.layout.proofs.RoundTrip.{entry-fits, entry-packed, packed-entry, packed-ext}
-use Rattle.layout.proofs.Widths.{Fit, Least, fits-of, of-fits, width-least, width-small, width-ext}
+use Rattle.layout.proofs.Widths.{Fit, fits-of, of-fits, width-least, width-small, width-ext}
 use Rattle.modes.specs.declared.Mode.{Mode}
 use Rattle.order.specs.Order.{ordered, valuesOf}
 use Rattle.bodies.specs.Body.{filled, widthOf, block}

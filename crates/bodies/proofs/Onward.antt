@@ -1,7 +1,7 @@
 -- Block by block: what a body, its refusal and its list are, is what its first block is and the same of the rest.
-use mathlib.Core.Path.{_≡_, refl, sym, _∙_, ap}
+use mathlib.Core.Path.{_≡_, sym, _∙_, ap}
 use mathlib.Core.List.{List, [], _++_}
-use Prim.Native.Nat.{ℕ, suc, _+_, _*_, _-_, _/_, _≤_, _<_, min}
+use Prim.Native.Nat.{ℕ, suc, _+_, _-_, _/_, _≤_, _<_, min}
 use native.Mathlib.Nat.{div-eq-of-lt, add-div-right}
 use native.Mathlib.Numerals.{add-one}
 use native.Mathlib.Omega.{arith}
@@ -11,17 +11,17 @@ use Rattle.layout.specs.Layout.{blockSize}
 use Rattle.modes.specs.declared.Mode.{Mode}
 use Rattle.order.specs.Order.{afterAll, entriesOf, valuesOf}
 use Rattle.order.proofs.Steps.{length-entries, entries-append, values-append}
-use Rattle.bodies.specs.Body.{block, blocks, blocksOf, bodyOf}
+use Rattle.bodies.specs.Body.{block, blockCount, blocksOf, bodyOf}
 use Rattle.bodies.specs.Reading.{orElse, sizeAt, entriesAt, valuesAt, blockRefusal, refusalFrom, bodyRefusal, entriesFrom, listOf}
 use Rattle.bodies.proofs.Whole.{front}
 
 module _ (L : ℕ) (lanes : 0 < L) where
-  pub blocks-none : blocks L 0 ≡ 0
-  unfolding blocks
+  pub blocks-none : blockCount L 0 ≡ 0
+  unfolding blockCount
   blocks-none = div-eq-of-lt (omega arith)
 
-  pub blocks-next : (count : ℕ) → 0 < count → blocks L count ≡ suc (blocks L (count - blockSize L))
-  unfolding blocks
+  pub blocks-next : (count : ℕ) → 0 < count → blockCount L count ≡ suc (blockCount L (count - blockSize L))
+  unfolding blockCount
   blocks-next count pos = go (decLt count (blockSize L))
     where
       more : (c n : ℕ) → 0 < n → n ≤ c → (c + (n - 1)) / n ≡ suc ((c - n + (n - 1)) / n)

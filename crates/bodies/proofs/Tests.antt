@@ -1,20 +1,19 @@
 -- What the tests of a block say where none refuses.
 use mathlib.Core.Path.{_≡_, refl, sym, _∙_}
-use mathlib.Core.Bool.{Bool, true, false, not}
+use mathlib.Core.Bool.{Bool, true, false}
 use mathlib.Core.List.{List}
 use Prim.Native.Nat.{ℕ, _+_, _-_, _≤_}
 use borrow.Author.Tests.{ltb-false, le-ltb, eqb-true, eq-eqb, not-false}
-use lib.Dec.{ltb, eqb}
 use lib.ListN.{length}
 use Rattle.layout.specs.Layout.{blockSize}
 use Rattle.layout.specs.Width.{fits, leastWidth}
 use Rattle.modes.specs.declared.Mode.{Mode}
 use Rattle.blocks.specs.declared.refusal.Refusal.{Refusal}
 use Rattle.blocks.specs.declared.refusal.Refusal.the-variants.{Accepted, BadWidth, CutShort, OutOfOrder, NotLeast, BadFill}
-use Rattle.blocks.specs.Refusals.{accepted, refuse}
+use Rattle.blocks.specs.Refusals.{accepted}
 use Rattle.blocks.proofs.Tests.{apart, passed}
 use Rattle.order.specs.Order.{ordered}
-use Rattle.bodies.specs.Reading.{orElse, widthAt, sizeAt, entryAt, valuesAt, frameRefusal, entriesRefusal, shapeRefusal, valuesRefusal, blockRefusal}
+use Rattle.bodies.specs.Reading.{orElse, widthAt, sizeAt, entryAt, valuesAt, frameRefusal, entriesRefusal, shapeRefusal, blockRefusal}
 
 -- one refusal and then another: both accept
 pub both : (k next : Refusal) → accepted (orElse k next) ≡ true → (accepted k ≡ true) × (accepted next ≡ true)
@@ -39,9 +38,9 @@ pub record Framed (L : ℕ) (bs : List ℕ) : Type 0 where
 pub framed : (L : ℕ) (bs : List ℕ) → accepted (frameRefusal L bs) ≡ true → Framed L bs
 unfolding frameRefusal
 framed L bs h =
-    let a = passed (ltb (length bs) 1) CutShort _ refl h in
-    let b = passed (ltb 32 (widthAt bs)) BadWidth _ refl (a .1) in
-    let c = passed (ltb (length bs) (sizeAt L bs)) CutShort Accepted refl (b .1) in
+    let a = passed _ CutShort _ refl h in
+    let b = passed _ BadWidth _ refl (a .1) in
+    let c = passed _ CutShort Accepted refl (b .1) in
     record { some = ltb-false _ _ (a .0); narrow = ltb-false _ _ (b .0); whole = ltb-false _ _ (c .0) }
 
 pub frames : (L : ℕ) (bs : List ℕ) → Framed L bs → accepted (frameRefusal L bs) ≡ true
@@ -56,8 +55,8 @@ pub record Kept (L k n : ℕ) (e : ℕ → ℕ) : Type 0 where
 pub kept : (L k n : ℕ) (e : ℕ → ℕ) → accepted (entriesRefusal L k n e) ≡ true → Kept L k n e
 unfolding entriesRefusal
 kept L k n e h =
-    let a = passed (not (fits (λ i. e (k + i)) (blockSize L - k) 0)) BadFill _ refl h in
-    let b = passed (not (eqb n (leastWidth e (blockSize L)))) NotLeast Accepted refl (a .1) in
+    let a = passed _ BadFill _ refl h in
+    let b = passed _ NotLeast Accepted refl (a .1) in
     record { filling = not-false _ (a .0); least = eqb-true _ _ (not-false _ (b .0)) }
 
 pub keeps : (L k n : ℕ) (e : ℕ → ℕ) → Kept L k n e → accepted (entriesRefusal L k n e) ≡ true
@@ -73,9 +72,9 @@ pub record Passed (L : ℕ) (m : Mode) (k : ℕ) (bs : List ℕ) : Type 0 where
 pub block-passed : (L : ℕ) (m : Mode) (k : ℕ) (bs : List ℕ) → accepted (blockRefusal L m k bs) ≡ true → Passed L m k bs
 unfolding blockRefusal shapeRefusal
 block-passed L m k bs h =
-    let o = both (shapeRefusal L k bs) (valuesRefusal m (valuesAt L m k bs)) h in
+    let o = both (shapeRefusal L k bs) _ h in
     let s = both (frameRefusal L bs) (entriesRefusal L k (widthAt bs) (entryAt L bs)) (o .0) in
-    let v = passed (not (ordered m (valuesAt L m k bs))) OutOfOrder Accepted refl (o .1) in
+    let v = passed _ OutOfOrder Accepted refl (o .1) in
     record { frame = framed L bs (s .0); entries = kept L k (widthAt bs) (entryAt L bs) (s .1); order = not-false _ (v .0) }
 
 pub block-passes : (L : ℕ) (m : Mode) (k : ℕ) (bs : List ℕ) → Passed L m k bs → accepted (blockRefusal L m k bs) ≡ true

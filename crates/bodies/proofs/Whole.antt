@@ -1,8 +1,8 @@
 -- Whole bodies: one is accepted exactly where it is what is written for its entries, and they are had back.
 use mathlib.Core.Path.{_≡_, refl, sym, _∙_, ap}
-use mathlib.Core.Bool.{Bool, true, false, _&&_}
+use mathlib.Core.Bool.{true, _&&_}
 use mathlib.Core.List.{List, [], _∷_, _++_, append-nil}
-use Prim.Native.Nat.{ℕ, zero, suc, _+_, _*_, _-_, _/_, _^_, _≤_, _<_, min}
+use Prim.Native.Nat.{ℕ, zero, suc, _+_, _*_, _-_, _^_, _≤_, _<_, min}
 use native.Mathlib.Nat.{min-le-left, min-eq-left, min-eq-right, sub-add-min-cancel, min-comm, zero-mul, lt-div-mul-add}
 use native.Mathlib.Numerals.{add-one}
 use native.Mathlib.Omega.{arith}
@@ -22,7 +22,7 @@ use Rattle.blocks.specs.Refusals.{accepted}
 use Rattle.blocks.proofs.Tests.{passed}
 use Rattle.order.specs.Order.{afterAll, ordered, valuesOf}
 use Rattle.order.proofs.Steps.{Starts, values-small, all-starts, values-append, ordered-append}
-use Rattle.bodies.specs.Body.{block, blocks, blocksOf}
+use Rattle.bodies.specs.Body.{block, blockCount, blocksOf}
 use Rattle.bodies.specs.Reading.{sizeAt, entryAt, entriesAt, valuesAt, blockRefusal, refusalFrom, entriesFrom}
 use Rattle.bodies.proofs.Tests.{both, Passed, block-passed, block-passes}
 use Rattle.bodies.proofs.Block.{entries-small, block-written, entries-back, rest-back, written-passes}
@@ -115,6 +115,6 @@ complete (suc b) L m es few w o =
     }
 
 -- ceil(count / B) blocks are enough
-pub blocks-enough : (L count : ℕ) → 0 < L → count ≤ blocks L count * blockSize L
-unfolding blocks
+pub blocks-enough : (L count : ℕ) → 0 < L → count ≤ blockCount L count * blockSize L
+unfolding blockCount
 blocks-enough L count pos = omega (arith, lt-div-mul-add {a = count + (32 * L - 1)} {b = 32 * L} (omega arith))

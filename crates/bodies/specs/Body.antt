@@ -20,8 +20,8 @@ unfoldable pub block : ℕ → List ℕ → List ℕ
 block L es = widthOf L es ∷ packed L (widthOf L es) (filled es)
 
 -- ceil(count / B)
-unfoldable pub blocks : ℕ → ℕ → ℕ
-blocks L count = (count + (blockSize L - 1)) / blockSize L
+unfoldable pub blockCount : ℕ → ℕ → ℕ
+blockCount L count = (count + (blockSize L - 1)) / blockSize L
 
 -- the entries es in b blocks one after another
 unfoldable pub blocksOf : ℕ → List ℕ → ℕ → List ℕ
@@ -30,4 +30,4 @@ blocksOf L es (suc b) = block L (take (blockSize L) es) ++ blocksOf L (drop (blo
 
 -- "A body holds ceil(count / B) blocks one after another": the body of the list vs
 unfoldable pub bodyOf : ℕ → Mode → List ℕ → List ℕ
-bodyOf L m vs = blocksOf L (entriesOf m vs) (blocks L (length vs))
+bodyOf L m vs = blocksOf L (entriesOf m vs) (blockCount L (length vs))

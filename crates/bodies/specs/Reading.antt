@@ -12,11 +12,11 @@ use Rattle.blocks.specs.declared.refusal.Refusal.{Refusal}
 use Rattle.blocks.specs.declared.refusal.Refusal.the-variants.{Accepted, BadWidth, CutShort, OutOfOrder, NotLeast, BadFill, LeftOver}
 use Rattle.blocks.specs.Refusals.{accepted, refuse}
 use Rattle.order.specs.Order.{afterAll, ordered, valuesOf}
-use Rattle.bodies.specs.Body.{blocks}
+use Rattle.bodies.specs.Body.{blockCount}
 
--- the refusal k, and where that accepts, what follows
+-- the first refusal, and where that accepts, what follows
 abbrev pub orElse : Refusal → Refusal → Refusal
-orElse k next = cond (accepted k) next k
+orElse first next = cond (accepted first) next first
 
 -- the width byte, the bytes of the block, its entry i, the list's own entries, and the values that these stand for
 abbrev pub widthAt : List ℕ → ℕ
@@ -42,14 +42,14 @@ frameRefusal L bs =
     (refuse (ltb (length bs) (sizeAt L bs)) CutShort
     Accepted))
 
--- ".. 10, 9, ..": whether its entries are as they are written. Filling is of 0 where it fits width 0.
+-- ".. 10, 9, ..": whether the entries e behind the first k are 0, and n is their least width. (To fit width 0 is to be 0.)
 unfoldable pub entriesRefusal : ℕ → ℕ → ℕ → (ℕ → ℕ) → Refusal
 entriesRefusal L k n e =
     refuse (not (fits (λ i. e (k + i)) (blockSize L - k) 0)) BadFill
     (refuse (not (eqb n (leastWidth e (blockSize L)))) NotLeast
     Accepted)
 
--- the bytes of a block: both of these
+-- what the bytes of a block are refused for, whatever values they stand for
 unfoldable pub shapeRefusal : ℕ → ℕ → List ℕ → Refusal
 shapeRefusal L k bs = orElse (frameRefusal L bs) (entriesRefusal L k (widthAt bs) (entryAt L bs))
 
@@ -61,15 +61,16 @@ valuesRefusal m vs = refuse (not (ordered m vs)) OutOfOrder Accepted
 unfoldable pub blockRefusal : ℕ → Mode → ℕ → List ℕ → Refusal
 blockRefusal L m k bs = orElse (shapeRefusal L k bs) (valuesRefusal m (valuesAt L m k bs))
 
--- "then block by block ..; at the end 11": b blocks of count values in all
+-- "then block by block ..; at the end 11": the b blocks that are left, which hold the count values that are left
 unfoldable pub refusalFrom : ℕ → Mode → ℕ → List ℕ → ℕ → Refusal
 refusalFrom L m count bs zero = refuse (ltb 0 (length bs)) LeftOver Accepted
 refusalFrom L m count bs (suc b) =
     orElse (blockRefusal L m (min (blockSize L) count) bs)
     (refusalFrom L (afterAll m (valuesAt L m (min (blockSize L) count) bs)) (count - blockSize L) (drop (sizeAt L bs) bs) b)
 
+-- a body of count values. m is the mode that the list starts with.
 abbrev pub bodyRefusal : ℕ → Mode → ℕ → List ℕ → Refusal
-bodyRefusal L m count bs = refusalFrom L m count bs (blocks L count)
+bodyRefusal L m count bs = refusalFrom L m count bs (blockCount L count)
 
 -- the list's own entries of b blocks
 unfoldable pub entriesFrom : ℕ → ℕ → List ℕ → ℕ → List ℕ
@@ -78,4 +79,4 @@ entriesFrom L count bs (suc b) = entriesAt L (min (blockSize L) count) bs ++ ent
 
 -- the list of count values that is read from the body bs
 unfoldable pub listOf : ℕ → Mode → ℕ → List ℕ → List ℕ
-listOf L m count bs = valuesOf m (entriesFrom L count bs (blocks L count))
+listOf L m count bs = valuesOf m (entriesFrom L count bs (blockCount L count))

@@ -7,3 +7,5 @@ pub mod RoundTrip
 pub mod Joined
 pub mod Widths
 pub mod Below
+pub mod Parts
+pub mod Fronts

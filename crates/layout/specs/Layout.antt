@@ -1,7 +1,7 @@
 -- "Words" and "Bit layout" of document 01. L is the number of lanes, n the width, r a row, l a lane, w a word of a lane.
 use Prim.Native.Nat.{ℕ, zero, suc, _+_, _*_, _/_, _%_, _^_, _<_}
 use mathlib.Core.List.{List, [], _∷_, _++_}
-use lib.ListN.{getD}
+use lib.ListN.{length, getD, drop}
 
 -- the number at place k of the list x, and 0 past its end
 abbrev pub at : List ℕ → ℕ → ℕ
@@ -10,6 +10,10 @@ at x k = getD x k 0
 -- every number of x is below n: 256 for bytes, 2 to the power 32 for values and entries
 abbrev pub Below : ℕ → List ℕ → Type 0
 Below n x = (k : ℕ) → at x k < n
+
+-- "Memory past those is unchanged": new at the front, and the rest as before
+abbrev pub over : List ℕ → List ℕ → List ℕ
+over new before = new ++ drop (length new) before
 
 -- "A block has B = 32L values."
 abbrev pub blockSize : ℕ → ℕ

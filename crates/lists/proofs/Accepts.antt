@@ -1,18 +1,17 @@
 -- Each call is accepted exactly when every one of its tests passes.
 use mathlib.Core.Path.{_≡_, refl}
-use mathlib.Core.Bool.{true, not}
+use mathlib.Core.Bool.{true}
 use mathlib.Core.Logic.{_↔_}
 use mathlib.Core.List.{List}
 use Prim.Native.Nat.{ℕ, _≤_}
 use borrow.Author.Tests.{ltb-false, le-ltb, not-false}
-use lib.Dec.{ltb}
 use lib.ListN.{length}
 use Rattle.modes.specs.declared.Mode.{Mode}
 use Rattle.blocks.specs.declared.refusal.Refusal.the-variants.{Accepted, BadLanes, NoRoom, TooMany, OutOfOrder}
-use Rattle.blocks.specs.Refusals.{accepted, refuse}
+use Rattle.blocks.specs.Refusals.{accepted}
 use Rattle.blocks.specs.Calls.{isLanes}
 use Rattle.blocks.proofs.Tests.{passed}
-use Rattle.order.specs.Order.{most, opened, ordered}
+use Rattle.order.specs.Order.{most, starting, ordered}
 use Rattle.bodies.specs.Body.{bodyOf}
 use Rattle.bodies.specs.Reading.{valuesRefusal, bodyRefusal}
 use Rattle.bodies.proofs.Tests.{both}
@@ -22,7 +21,7 @@ use Rattle.lists.specs.Calls.{writeRefusal, readRefusal}
 pub record Writable (L : ℕ) (m : Mode) (vs : List ℕ) (room : ℕ) : Type 0 where
   pub lanes : isLanes L ≡ true
   pub few : length vs ≤ most
-  pub order : ordered (opened m) vs ≡ true
+  pub order : ordered (starting m) vs ≡ true
   pub enough : length (bodyOf L m vs) ≤ room
 
 pub write-exactly : (L : ℕ) (m : Mode) (vs : List ℕ) (room : ℕ) → (accepted (writeRefusal L m vs room) ≡ true) ↔ Writable L m vs room
@@ -33,11 +32,11 @@ write-exactly L m vs room = (
   where
     there : accepted (writeRefusal L m vs room) ≡ true → Writable L m vs room
     there h =
-        let a = passed (not (isLanes L)) BadLanes _ refl h in
-        let b = passed (ltb most (length vs)) TooMany _ refl (a .1) in
-        let c = both (valuesRefusal (opened m) vs) _ (b .1) in
-        let d = passed (not (ordered (opened m) vs)) OutOfOrder Accepted refl (c .0) in
-        let e = passed (ltb room (length (bodyOf L m vs))) NoRoom Accepted refl (c .1) in
+        let a = passed _ BadLanes _ refl h in
+        let b = passed _ TooMany _ refl (a .1) in
+        let c = both (valuesRefusal (starting m) vs) _ (b .1) in
+        let d = passed _ OutOfOrder Accepted refl (c .0) in
+        let e = passed _ NoRoom Accepted refl (c .1) in
         record {
           lanes = not-false _ (a .0);
           few = ltb-false most (length vs) (b .0);
@@ -50,14 +49,14 @@ pub record Readable (L : ℕ) (m : Mode) (count : ℕ) (bs : List ℕ) (room : �
   pub lanes : isLanes L ≡ true
   pub few : count ≤ most
   pub enough : count ≤ room
-  pub body : accepted (bodyRefusal L (opened m) count bs) ≡ true
+  pub body : accepted (bodyRefusal L (starting m) count bs) ≡ true
 
 pub read-exactly : (L : ℕ) (m : Mode) (count : ℕ) (bs : List ℕ) (room : ℕ) → (accepted (readRefusal L m count bs room) ≡ true) ↔ Readable L m count bs room
 read-exactly L m count bs room = (there, λ s. rw (s .lanes, le-ltb most count (s .few), le-ltb room count (s .enough)) (s .body))
   where
     there : accepted (readRefusal L m count bs room) ≡ true → Readable L m count bs room
     there h =
-        let a = passed (not (isLanes L)) BadLanes _ refl h in
-        let b = passed (ltb most count) TooMany _ refl (a .1) in
-        let c = passed (ltb room count) NoRoom _ refl (b .1) in
+        let a = passed _ BadLanes _ refl h in
+        let b = passed _ TooMany _ refl (a .1) in
+        let c = passed _ NoRoom _ refl (b .1) in
         record { lanes = not-false _ (a .0); few = ltb-false most count (b .0); enough = ltb-false room count (c .0); body = c .1 }

@@ -2,27 +2,27 @@
 use mathlib.Core.Path.{_≡_, refl, sym, _∙_, ap}
 use mathlib.Core.Bool.{true}
 use mathlib.Core.List.{List}
-use Prim.Native.Nat.{ℕ, _+_, _*_, _-_, _≤_}
+use Prim.Native.Nat.{ℕ, _*_, _-_, _≤_}
 use native.Mathlib.Nat.{mul-le-mul}
 use native.Mathlib.Omega.{arith}
 use lib.ListN.{length, take, drop, length-drop}
 use borrow.Rule.Slice.PartMut.{midOf}
-use Rattle.layout.specs.Layout.{at, blockSize, payloadSize, table, packed, payloadEntry}
+use Rattle.layout.specs.Layout.{at, blockSize, payloadSize, table, packed, over}
 use Rattle.layout.proofs.Tables.{length-table}
 use Rattle.layout.specs.Width.{fits, leastWidth}
 use Rattle.modes.specs.declared.Mode.{Mode}
 use Rattle.modes.specs.declared.Mode.the-variants.{Plain}
 use Rattle.blocks.specs.declared.Answer.{Answer}
 use Rattle.blocks.specs.declared.Width.{Width}
-use Rattle.blocks.specs.Calls.{isLanes, over, sizeAnswer, packRefusal, packOutput, unpacked, unpackRefusal, unpackOutput, widthAnswer}
+use Rattle.blocks.specs.Calls.{isLanes, sizeAnswer, packRefusal, packOutput, unpacked, unpackRefusal, unpackOutput, widthAnswer}
 use Rattle.blocks.proofs.Tests.{lanes-of, size-exactly, pack-exactly, unpack-exactly, width-exactly}
 use Rattle.blocks.proofs.Answers.{overwritten}
-use Rattle.blocks.proofs.Parts.{part-is}
 use Rattle.order.proofs.Steps.{plain-values}
 use Rattle.order.proofs.Blockwise.{values-are}
-use Rattle.bodies.specs.Reading.{widthAt, sizeAt, entryAt, valuesAt}
+use Rattle.bodies.specs.Reading.{widthAt, entryAt, valuesAt}
 use Rattle.bodies.proofs.Tests.{Framed}
-use Rattle.lists.proofs.Fronts.{length-over, take-over}
+use Rattle.layout.proofs.Fronts.{length-over, take-over}
+use Rattle.layout.proofs.Parts.{part-is}
 
 module _ (L : ℕ) (lanes : isLanes L ≡ true) where
   -- a payload is at most 1,024 bytes

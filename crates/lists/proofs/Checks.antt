@@ -1,12 +1,11 @@
 -- The tests of reading: each way out of a block's, and a run of blocks.
-use mathlib.Core.Path.{_≡_, refl, sym, _∙_, ap, subst}
-use mathlib.Core.Bool.{Bool, true, false, not, cond}
+use mathlib.Core.Path.{_≡_, refl, sym, _∙_, ap}
+use mathlib.Core.Bool.{Bool, true, false}
 use mathlib.Core.List.{List}
-use Prim.Native.Nat.{ℕ, _+_, _-_, _^_, _≤_, _<_, min}
+use Prim.Native.Nat.{ℕ, _+_, _-_, _≤_, _<_, min}
 use native.Mathlib.Nat.{add-zero, lt-of-lt-of-le}
 use native.Mathlib.Omega.{arith}
 use borrow.Author.Tests.{lt-ltb, le-ltb}
-use lib.Dec.{ltb, eqb}
 use lib.ListN.{length, take, drop, length-drop}
 use lib.Pow.{pow-mono}
 use lib.Seq.{drop-drop, getD-drop, take-take}
@@ -18,18 +17,16 @@ use Rattle.layout.proofs.RoundTrip.{entry-fits}
 use Rattle.layout.proofs.Widths.{fits-ext, width-ext}
 use Rattle.modes.specs.declared.Mode.{Mode}
 use Rattle.blocks.specs.declared.refusal.Refusal.{Refusal}
-use Rattle.blocks.specs.declared.refusal.Refusal.the-variants.{Accepted, OutOfOrder, NotLeast, BadFill, LeftOver}
+use Rattle.blocks.specs.declared.refusal.Refusal.the-variants.{Accepted, OutOfOrder, LeftOver}
 use Rattle.blocks.specs.Refusals.{accepted}
-use Rattle.blocks.proofs.Parts.{part-is, part-at, part-length}
-use Rattle.blocks.proofs.Tests.{accepted-is}
 use Rattle.order.specs.declared.Course.{Course}
 use Rattle.order.specs.Order.{afterAll, ordered, valuesOf, course}
-use Rattle.bodies.specs.Body.{blocks}
 use Rattle.bodies.specs.Reading.{orElse, widthAt, sizeAt, entryAt, entriesAt, valuesAt, frameRefusal, entriesRefusal, shapeRefusal, blockRefusal, refusalFrom, bodyRefusal}
-use Rattle.bodies.proofs.Tests.{first-stops, first-passes, Framed, framed, Passed, block-passed}
+use Rattle.bodies.proofs.Tests.{first-stops, first-passes, Framed, framed, block-passed}
 use Rattle.bodies.proofs.Onward.{blocks-none, refusal-next}
 use Rattle.lists.specs.declared.check.Checked.{Checked}
 use Rattle.lists.specs.kernel.Steps.{checked}
+use Rattle.layout.proofs.Parts.{part-is, part-at, part-length}
 
 -- the filling, as the part behind the list's own entries
 pub fill-part : (L k : ℕ) (es : List ℕ) → length es ≡ blockSize L

@@ -1,28 +1,27 @@
 -- Demand 3 holds.
 use mathlib.Core.Path.{_≡_, refl, sym, _∙_, ap}
-use mathlib.Core.Bool.{true, cond}
-use mathlib.Core.List.{List, _++_}
+use mathlib.Core.Bool.{true}
+use mathlib.Core.List.{List}
 use Prim.Native.Nat.{ℕ, _^_, _≤_, _<_}
 use lib.ListN.{length, take}
-use Rattle.layout.specs.Layout.{Below}
+use Rattle.layout.specs.Layout.{Below, over}
 use Rattle.modes.specs.declared.Mode.{Mode}
 use Rattle.modes.specs.Entries.{firstOf}
-use Rattle.blocks.specs.declared.Answer.{Answer}
 use Rattle.blocks.specs.declared.refusal.Refusal.{Refusal}
 use Rattle.blocks.specs.declared.refusal.Refusal.the-variants.{Accepted}
 use Rattle.blocks.specs.Refusals.{accepted}
-use Rattle.blocks.specs.Calls.{isLanes, answer, over, written}
+use Rattle.blocks.specs.Calls.{isLanes, answer, written}
 use Rattle.blocks.proofs.Tests.{lanes-of, accepted-is}
-use Rattle.order.specs.Order.{IsList, opened, entriesOf, valuesOf}
+use Rattle.order.specs.Order.{IsList, starting, entriesOf, valuesOf}
 use Rattle.order.proofs.Steps.{length-entries, length-values, entries-small, values-small, values-entries, entries-values}
-use Rattle.order.proofs.Openings.{opened-first, opened-values}
-use Rattle.bodies.specs.Body.{blocks, blocksOf, bodyOf}
+use Rattle.order.proofs.Beginnings.{starting-first, starting-values}
+use Rattle.bodies.specs.Body.{blockCount, blocksOf, bodyOf}
 use Rattle.bodies.specs.Reading.{entriesFrom, listOf}
 use Rattle.bodies.proofs.Whole.{Written, sound, Had, complete, blocks-enough}
 use Rattle.lists.specs.Calls.{writeRefusal, writeOutput, readRefusal, readOutput}
-use Rattle.lists.specs.Demand.{Holds, Reads, Writes}
+use Rattle.lists.specs.Demand.{Holds, Reads, Writes, Demand3}
 use Rattle.lists.proofs.Accepts.{write-exactly, read-exactly}
-use Rattle.lists.proofs.Fronts.{take-over}
+use Rattle.layout.proofs.Fronts.{take-over}
 
 -- what an accepted call answers and leaves
 accepted-answer : (k : Refusal) (size : ℕ) → accepted k ≡ true → answer k size ≡ record { refusal = Accepted; length = size }
@@ -36,27 +35,27 @@ module _ (L : ℕ) (m : Mode) (lanes : isLanes L ≡ true) (first : firstOf m < 
   pub list-read : (count room : ℕ) (bs : List ℕ) → Below 256 bs → accepted (readRefusal L m count bs room) ≡ true → Holds L m count bs (listOf L m count bs)
   unfolding listOf bodyOf
   list-read count room bs bytes h =
-      let b : ℕ = blocks L count in
+      let b : ℕ = blockCount L count in
       let es : List ℕ = entriesFrom L count bs b in
       let r = read-exactly L m count bs room .0 h in
-      let w : Written L (opened m) count bs b es = sound b L (opened m) count bs (blocks-enough L count (lanes-of L lanes .0)) (rw (opened-first m) first) bytes (r .body) in
+      let w : Written L (starting m) count bs b es = sound b L (starting m) count bs (blocks-enough L count (lanes-of L lanes .0)) (rw (starting-first m) first) bytes (r .body) in
       let size : length (valuesOf m es) ≡ count = length-values m es ∙ w .size in
       record {
-        list = record { size = size; few = r .few; small = values-small m es (w .small); order = rw (← opened-values m es) (w .order) };
+        list = record { size = size; few = r .few; small = values-small m es (w .small); order = rw (← starting-values m es) (w .order) };
         body = rw (entries-values m es first (w .small), size) (w .body);
       }
 
   -- the body of a list is accepted, and the list is read from it
   module _ {count : ℕ} {bs vs : List ℕ} (h : Holds L m count bs vs) where
-    had : Had L (opened m) count bs (blocks L count) (entriesOf m vs)
+    had : Had L (starting m) count bs (blockCount L count) (entriesOf m vs)
     unfolding bodyOf
     had =
         let es : List ℕ = entriesOf m vs in
         let size : length es ≡ count = length-entries m vs ∙ h .list .size in
-        let whole : Had L (opened m) (length es) (blocksOf L es (blocks L count)) (blocks L count) es =
-        complete (blocks L count) L (opened m) es (rw size (blocks-enough L count (lanes-of L lanes .0))) (entries-small m vs (h .list .small))
-        (rw (opened-values m es, values-entries m vs first (h .list .small)) (h .list .order)) in
-        let body : bs ≡ blocksOf L es (blocks L count) = h .body ∙ rw (h .list .size) in
+        let whole : Had L (starting m) (length es) (blocksOf L es (blockCount L count)) (blockCount L count) es =
+        complete (blockCount L count) L (starting m) es (rw size (blocks-enough L count (lanes-of L lanes .0))) (entries-small m vs (h .list .small))
+        (rw (starting-values m es, values-entries m vs first (h .list .small)) (h .list .order)) in
+        let body : bs ≡ blocksOf L es (blockCount L count) = h .body ∙ rw (h .list .size) in
         rw body (rw size at whole)
 
     pub body-accepted : (room : ℕ) → count ≤ room → accepted (readRefusal L m count bs room) ≡ true
@@ -66,7 +65,7 @@ module _ (L : ℕ) (m : Mode) (lanes : isLanes L ≡ true) (first : firstOf m < 
     unfolding listOf
     list-back = ap (valuesOf m) (had .list) ∙ values-entries m vs first (h .list .small)
 
-  -- the theorem: of reading,
+  -- reading
   pub demand-reads : (count : ℕ) (bs before : List ℕ) → Below 256 bs → count ≤ length before → Reads L m count bs before
   demand-reads count bs before bytes enough =
       record {
@@ -76,7 +75,7 @@ module _ (L : ℕ) (m : Mode) (lanes : isLanes L ≡ true) (first : firstOf m < 
         returned = λ vs h. accepted-output (readRefusal L m count bs (length before)) (listOf L m count bs) before (body-accepted h (length before) enough) ∙ ap (λ (t : List ℕ). over t before) (list-back h);
       }
 
-  -- and of writing
+  -- writing
   pub demand-writes : (count : ℕ) (vs before : List ℕ) → IsList m count vs → length (bodyOf L m vs) ≤ length before → Writes L m vs before
   demand-writes count vs before l enough =
       let ok : accepted (writeRefusal L m vs (length before)) ≡ true = write-exactly L m vs (length before) .1 (record { lanes = lanes; few = rw (l .size) (l .few); order = l .order; enough = enough }) in
@@ -98,3 +97,6 @@ module _ (L : ℕ) (m : Mode) (lanes : isLanes L ≡ true) (first : firstOf m < 
       let h : Holds L m count (bodyOf L m vs) vs = record { list = l; body = refl } in
       ap (λ (t : List ℕ). readOutput L m count t out) wrote
       ∙ accepted-output (readRefusal L m count (bodyOf L m vs) (length out)) (listOf L m count (bodyOf L m vs)) out (body-accepted h (length out) room) ∙ ap (λ (t : List ℕ). over t out) (list-back h)
+
+pub demand-3 : Demand3
+demand-3 L m lanes first = (demand-reads L m lanes first, demand-writes L m lanes first)

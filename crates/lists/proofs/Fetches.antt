@@ -1,30 +1,29 @@
 -- The values of a body: one block, and a run of blocks.
-use mathlib.Core.Path.{_≡_, refl, sym, _∙_, ap, subst}
+use mathlib.Core.Path.{_≡_, refl, sym, _∙_, ap}
 use mathlib.Core.Bool.{true}
 use mathlib.Core.List.{List, [], _++_, append-assoc, append-nil}
-use Prim.Native.Nat.{ℕ, zero, suc, _+_, _*_, _-_, _≤_, _<_, min}
+use Prim.Native.Nat.{ℕ, zero, suc, _+_, _-_, _≤_, _<_, min}
 use native.Mathlib.Nat.{sub-zero, add-zero, min-eq-left, min-eq-right}
 use native.Mathlib.Omega.{arith}
 use lib.ListN.{length, take, drop, length-append, length-drop, List·getD-append}
 use lib.Seq.{drop-drop, getD-drop, take-take}
 use borrow.Rule.Slice.PartMut.{midOf, putMid}
-use Rattle.layout.specs.Layout.{at, blockSize, payloadSize, table}
+use Rattle.layout.specs.Layout.{at, blockSize, payloadSize, over}
 use Rattle.layout.proofs.Tables.{length-table, take-table}
 use Rattle.modes.specs.Entries.{values}
 use Rattle.modes.specs.declared.Mode.{Mode}
 use Rattle.blocks.specs.Refusals.{accepted}
-use Rattle.blocks.specs.Calls.{over}
-use Rattle.blocks.proofs.Parts.{part-is}
 use Rattle.order.specs.Order.{after, afterAll}
 use Rattle.order.proofs.Steps.{length-values}
 use Rattle.order.proofs.Going.{after-end}
 use Rattle.order.proofs.Blockwise.{values-are}
-use Rattle.bodies.specs.Body.{blocks}
+use Rattle.bodies.specs.Body.{blockCount}
 use Rattle.bodies.specs.Reading.{widthAt, sizeAt, entryAt, entriesAt, valuesAt, frameRefusal, entriesRefusal, shapeRefusal, blockRefusal, refusalFrom, listOf}
 use Rattle.bodies.proofs.Tests.{both, Framed, framed}
 use Rattle.bodies.proofs.Onward.{blocks-next, list-none, list-next}
 use Rattle.lists.specs.kernel.Steps.{framesFrom}
-use Rattle.lists.proofs.Fronts.{Front, front-none, front-length, front-part, length-over, take-over}
+use Rattle.layout.proofs.Fronts.{Front, front-none, front-length, front-part, take-over}
+use Rattle.layout.proofs.Parts.{part-is}
 
 -- one block
 
@@ -53,10 +52,10 @@ module _ (L : ℕ) (m : Mode) (bs : List ℕ) where
 -- a run of blocks
 
 -- the first of them stands there, and so do the others
-module _ (L : ℕ) (lanes : 0 < L) (count : ℕ) (bs : List ℕ) (pos : 0 < count) (good : accepted (framesFrom L bs (blocks L count)) ≡ true) where
-  frames-next : (accepted (frameRefusal L bs) ≡ true) × (accepted (framesFrom L (drop (sizeAt L bs) bs) (blocks L (count - blockSize L))) ≡ true)
+module _ (L : ℕ) (lanes : 0 < L) (count : ℕ) (bs : List ℕ) (pos : 0 < count) (good : accepted (framesFrom L bs (blockCount L count)) ≡ true) where
+  frames-next : (accepted (frameRefusal L bs) ≡ true) × (accepted (framesFrom L (drop (sizeAt L bs) bs) (blockCount L (count - blockSize L))) ≡ true)
   unfolding framesFrom
-  frames-next = both (frameRefusal L bs) (framesFrom L (drop (sizeAt L bs) bs) (blocks L (count - blockSize L))) (rw (blocks-next L lanes count pos) at good)
+  frames-next = both (frameRefusal L bs) (framesFrom L (drop (sizeAt L bs) bs) (blockCount L (count - blockSize L))) (rw (blocks-next L lanes count pos) at good)
 
 -- a body that is not refused has them
 pub frames-good : (b L : ℕ) (m : Mode) (count : ℕ) (bs : List ℕ) → accepted (refusalFrom L m count bs b) ≡ true → accepted (framesFrom L bs b) ≡ true
@@ -76,9 +75,9 @@ pub record Fetching (L : ℕ) (m₀ : Mode) (count : ℕ) (body before : List �
   pub far : length so-far ≡ done
   pub list : listOf L m₀ count body ≡ so-far ++ listOf L m (count - done) (drop place body)
   pub here : Front so-far before out
-  pub good : accepted (framesFrom L (drop place body) (blocks L (count - done))) ≡ true
+  pub good : accepted (framesFrom L (drop place body) (blockCount L (count - done))) ≡ true
 
-pub fetching-start : (L : ℕ) (m : Mode) (count : ℕ) (body before : List ℕ) → accepted (framesFrom L body (blocks L count)) ≡ true → Fetching L m count body before m 0 0 before
+pub fetching-start : (L : ℕ) (m : Mode) (count : ℕ) (body before : List ℕ) → accepted (framesFrom L body (blockCount L count)) ≡ true → Fetching L m count body before m 0 0 before
 fetching-start L m count body before h =
     record { fewer = omega arith; within = omega arith; so-far = []; far = refl; list = rw sub-zero; here = front-none before; good = rw sub-zero h }
 
@@ -88,7 +87,7 @@ module _ {L : ℕ} {m₀ : Mode} {count : ℕ} {body before : List ℕ} {m : Mod
   out-length = front-length (f .here) done (f .far)
 
   module _ (lt : done < count) where
-    next : (accepted (frameRefusal L (drop place body)) ≡ true) × (accepted (framesFrom L (drop (sizeAt L (drop place body)) (drop place body)) (blocks L (count - done - blockSize L))) ≡ true)
+    next : (accepted (frameRefusal L (drop place body)) ≡ true) × (accepted (framesFrom L (drop (sizeAt L (drop place body)) (drop place body)) (blockCount L (count - done - blockSize L))) ≡ true)
     next = frames-next L lanes (count - done) (drop place body) (omega arith) (f .good)
 
     -- the next block stands there

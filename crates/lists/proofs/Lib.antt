@@ -1,4 +1,3 @@
-pub mod Fronts
 pub mod BlockCalls
 pub mod Checks
 pub mod Fetches

@@ -5,10 +5,10 @@ use Rattle.layout.specs.Layout.{bit, number, table, entryBits, byteBits, payloa
 use Rattle.layout.specs.Width.{fits, leastFrom, leastWidth}
 use Rattle.blocks.specs.Calls.{isLanes, unpacked}
 use Rattle.order.specs.Order.{afterAll, ordered, entriesOf, valuesOf}
-use Rattle.bodies.specs.Body.{block, blocks, blocksOf, bodyOf}
+use Rattle.bodies.specs.Body.{block, blockCount, blocksOf, bodyOf}
 use Rattle.bodies.specs.Reading.{frameRefusal, entriesRefusal, shapeRefusal, blockRefusal, refusalFrom, entriesFrom, listOf}
 use Rattle.lists.specs.Starred.{starred}
 
 pub starred-hold : map (λ c. c .given) starred ≡ map (λ c. c .said) starred
-unfolding starred packed table payloadByte entryBits byteBits payloadEntry number bit fits leastFrom leastWidth isLanes unpacked afterAll ordered entriesOf valuesOf block blocks blocksOf bodyOf frameRefusal entriesRefusal shapeRefusal blockRefusal refusalFrom entriesFrom listOf
+unfolding starred packed table payloadByte entryBits byteBits payloadEntry number bit fits leastFrom leastWidth isLanes unpacked afterAll ordered entriesOf valuesOf block blockCount blocksOf bodyOf frameRefusal entriesRefusal shapeRefusal blockRefusal refusalFrom entriesFrom listOf
 starred-hold = refl

@@ -10,7 +10,7 @@ use Rattle.blocks.specs.declared.refusal.Refusal.{Refusal}
 use Rattle.blocks.specs.declared.refusal.Refusal.the-variants.{Accepted, BadLanes, NoRoom, TooMany}
 use Rattle.blocks.specs.Refusals.{refuse}
 use Rattle.blocks.specs.Calls.{isLanes, answer, written}
-use Rattle.order.specs.Order.{most, opened}
+use Rattle.order.specs.Order.{most, starting}
 use Rattle.bodies.specs.Body.{bodyOf}
 use Rattle.bodies.specs.Reading.{orElse, valuesRefusal, bodyRefusal, listOf}
 
@@ -19,7 +19,7 @@ abbrev pub writeRefusal : ℕ → Mode → List ℕ → ℕ → Refusal
 writeRefusal L m vs room =
     refuse (not (isLanes L)) BadLanes
     (refuse (ltb most (length vs)) TooMany
-    (orElse (valuesRefusal (opened m) vs)
+    (orElse (valuesRefusal (starting m) vs)
     (refuse (ltb room (length (bodyOf L m vs))) NoRoom
     Accepted)))
 
@@ -36,7 +36,7 @@ readRefusal L m count bs room =
     refuse (not (isLanes L)) BadLanes
     (refuse (ltb most count) TooMany
     (refuse (ltb room count) NoRoom
-    (bodyRefusal L (opened m) count bs)))
+    (bodyRefusal L (starting m) count bs)))
 
 -- the count, and the list at the front of the output
 abbrev pub readAnswer : ℕ → Mode → ℕ → List ℕ → ℕ → Answer

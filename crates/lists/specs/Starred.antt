@@ -1,4 +1,4 @@
--- The starred cases of "Numbers at the edges": what the definitions give, and what document 01 says.
+-- The starred cases of "Numbers at the edges".
 use mathlib.Core.List.{List, [], _∷_, _++_}
 use Prim.Native.Nat.{ℕ}
 use lib.ListN.{set, replicate}
@@ -9,8 +9,7 @@ use Rattle.modes.specs.Entries.{entries}
 use Rattle.blocks.specs.Refusals.{numberOf}
 use Rattle.blocks.specs.Calls.{unpacked, packRefusal}
 use Rattle.bodies.specs.Body.{bodyOf}
-use Rattle.bodies.specs.Reading.{listOf}
-use Rattle.lists.specs.Calls.{writeRefusal, readRefusal}
+use Rattle.lists.specs.Calls.{writeRefusal, readRefusal, readOutput}
 
 -- a case: what the definitions give, and what document 01 says
 pub record Case : Type 0 where
@@ -46,12 +45,12 @@ starred =
     -- 9. "L=1, plain: lists (1) and (1, 0) both have body 01 01 00 00 00; the count tells them apart."
     ∷ record { given = bodyOf 1 Plain (1 ∷ []); said = 0x01 ∷ 0x01 ∷ 0x00 ∷ 0x00 ∷ 0x00 ∷ [] }
     ∷ record { given = bodyOf 1 Plain (1 ∷ 0 ∷ []); said = 0x01 ∷ 0x01 ∷ 0x00 ∷ 0x00 ∷ 0x00 ∷ [] }
-    ∷ record { given = listOf 1 Plain 1 (0x01 ∷ 0x01 ∷ 0x00 ∷ 0x00 ∷ 0x00 ∷ []); said = 1 ∷ [] }
-    ∷ record { given = listOf 1 Plain 2 (0x01 ∷ 0x01 ∷ 0x00 ∷ 0x00 ∷ 0x00 ∷ []); said = 1 ∷ 0 ∷ [] }
+    ∷ record { given = readOutput 1 Plain 1 (0x01 ∷ 0x01 ∷ 0x00 ∷ 0x00 ∷ 0x00 ∷ []) (7 ∷ 7 ∷ []); said = 1 ∷ 7 ∷ [] }
+    ∷ record { given = readOutput 1 Plain 2 (0x01 ∷ 0x01 ∷ 0x00 ∷ 0x00 ∷ 0x00 ∷ []) (7 ∷ 7 ∷ []); said = 1 ∷ 0 ∷ [] }
     -- 10. "L=1, plain, count 1: body 01 03 00 00 00 is 10; body 02 01 and seven 00 is 9."
     ∷ record { given = numberOf (readRefusal 1 Plain 1 (0x01 ∷ 0x03 ∷ 0x00 ∷ 0x00 ∷ 0x00 ∷ []) 1) ∷ []; said = 10 ∷ [] }
     ∷ record { given = numberOf (readRefusal 1 Plain 1 (0x02 ∷ 0x01 ∷ replicate 7 0x00) 1) ∷ []; said = 9 ∷ [] }
     -- 11. "Strict, none, list 4,294,967,295, 0: 8. As neighbours in a block they pack."
     ∷ record { given = numberOf (writeRefusal 1 (Strict None) (4294967295 ∷ 0 ∷ []) 1000) ∷ []; said = 8 ∷ [] }
-    ∷ record { given = numberOf (packRefusal 1 (Strict None) (4294967295 ∷ replicate 31 0) 128 32) ∷ []; said = 0 ∷ [] }
+    ∷ record { given = numberOf (packRefusal 1 (Strict (Number 4294967294)) (4294967295 ∷ table (λ k. k) 31) 0 0) ∷ []; said = 0 ∷ [] }
     ∷ []

@@ -1,7 +1,7 @@
 // The tests of reading, block by block. Nothing is written.
-use crate::blocked::block_length;
-use crate::blocked::lesser;
-use crate::blocked::widen;
+use crate::sizes::block_length;
+use crate::sizes::lesser;
+use crate::sizes::widen;
 use blocks::decompress;
 use blocks::num_bits;
 use blocks::refusal::Refusal;
@@ -48,6 +48,7 @@ fn block_entries(lanes: usize, bytes: &[u8]) -> [u32; 256]
     block
 }
 
+// Whether all of them are 0.
 fn zeros(entries: &[u32]) -> bool
     ensures { λ r. ⌜ r ≡ fits (at (now (entries .entry))) (length (now (entries .entry))) 0 ⌝ }
 {
@@ -75,7 +76,7 @@ fn entries_refusal(lanes: usize, count: usize, width: u32, entries: &[u32]) -> R
     Refusal::Accepted
 }
 
-// The refusal of a block, and the mode past its values.
+// The refusal of a block, and the mode past its values; the mode before them where it is refused.
 struct Checked {
     refusal: Refusal,
     mode: Mode,

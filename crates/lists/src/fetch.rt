@@ -1,6 +1,6 @@
 // The values of a body whose blocks are all there, into the caller's output.
-use crate::blocked::block_length;
-use crate::blocked::widen;
+use crate::sizes::block_length;
+use crate::sizes::widen;
 use blocks::decompress;
 use modes::Mode;
 use order::after;
@@ -8,14 +8,15 @@ ghost use mathlib.Core.Path.{_≡_};
 ghost use mathlib.Core.Bool.{true};
 ghost use Prim.Native.Nat.{_≤_};
 ghost use lib.ListN.{length};
-ghost use Rattle.layout.specs.Layout.{blockSize};
+ghost use Rattle.layout.specs.Layout.{blockSize, over};
 ghost use Rattle.blocks.specs.Refusals.{accepted};
-ghost use Rattle.blocks.specs.Calls.{isLanes, over};
+ghost use Rattle.blocks.specs.Calls.{isLanes};
 ghost use Rattle.order.specs.Order.{most, afterAll};
-ghost use Rattle.bodies.specs.Body.{blocks};
+ghost use Rattle.bodies.specs.Body.{blockCount};
 ghost use Rattle.bodies.specs.Reading.{valuesAt, frameRefusal, listOf};
 ghost use Rattle.lists.specs.kernel.Steps.{framesFrom};
 
+// The source at the front of the values.
 fn copy(source: &[u32], values: &mut [u32])
     requires { ⌜ length (now source) ≤ length (now values) ⌝ }
     ensures { λ r. ⌜ now (values .exit) ≡ over (now (source .entry)) (now (values .entry)) ⌝ }
@@ -45,8 +46,9 @@ fn fetch_last(lanes: usize, mode: Mode, count: usize, bytes: &[u8], values: &mut
     copy(&block[..count], values);
 }
 
+// The list at the front of the values: full blocks from the running position onward, and then a last block that is not full.
 pub(crate) fn fetch_body(lanes: usize, mode: Mode, count: usize, body: &[u8], values: &mut [u32])
-    requires { ⌜ (isLanes lanes ≡ true) × (count ≤ most) × (count ≤ length (now values)) × (accepted (framesFrom lanes (now body) (blocks lanes count)) ≡ true) ⌝ }
+    requires { ⌜ (isLanes lanes ≡ true) × (count ≤ most) × (count ≤ length (now values)) × (accepted (framesFrom lanes (now body) (blockCount lanes count)) ≡ true) ⌝ }
     ensures { λ r. ⌜ now (values .exit) ≡ over (listOf lanes mode count (now (body .entry))) (now (values .entry)) ⌝ }
 {
     let mut running = mode;

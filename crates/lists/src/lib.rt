@@ -6,16 +6,16 @@ use check::body_refusal;
 use fetch::fetch_body;
 use modes::Mode;
 use order::in_order;
-use order::opened;
+use order::starting;
 use store::body_length;
 use store::store_body;
 ghost use mathlib.Core.Path.{_≡_};
 ghost use lib.ListN.{length};
 ghost use Rattle.lists.specs.Calls.{writeRefusal, writeAnswer, writeOutput, readRefusal, readAnswer, readOutput};
 
-mod blocked;
 mod check;
 mod fetch;
+mod sizes;
 mod store;
 
 fn write_refusal(lanes: usize, mode: Mode, values: &[u32], room: usize) -> Refusal
@@ -27,7 +27,7 @@ fn write_refusal(lanes: usize, mode: Mode, values: &[u32], room: usize) -> Refus
     if 4096 < values.len() {
         return Refusal::TooMany;
     }
-    if !in_order(opened(mode), values) {
+    if !in_order(starting(mode), values) {
         return Refusal::OutOfOrder;
     }
     if room < body_length(lanes, mode, values) {
@@ -61,7 +61,7 @@ fn read_refusal(lanes: usize, mode: Mode, count: usize, body: &[u8], room: usize
     if room < count {
         return Refusal::NoRoom;
     }
-    body_refusal(lanes, opened(mode), count, body)
+    body_refusal(lanes, starting(mode), count, body)
 }
 
 // Read a list: the only list of `count` values that has this body, at the front of `values`. Answers the count.

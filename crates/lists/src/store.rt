@@ -1,6 +1,6 @@
 // The body of values that are in order, block by block.
-use crate::blocked::block_length;
-use crate::blocked::lesser;
+use crate::sizes::block_length;
+use crate::sizes::lesser;
 use blocks::compress;
 use blocks::num_bits;
 use modes::Mode;
@@ -10,13 +10,13 @@ ghost use mathlib.Core.Path.{_≡_};
 ghost use mathlib.Core.Bool.{true};
 ghost use Prim.Native.Nat.{_≤_};
 ghost use lib.ListN.{length, replicate};
-ghost use Rattle.layout.specs.Layout.{blockSize};
-ghost use Rattle.blocks.specs.Calls.{isLanes, over};
+ghost use Rattle.layout.specs.Layout.{blockSize, over};
+ghost use Rattle.blocks.specs.Calls.{isLanes};
 ghost use Rattle.order.specs.Order.{most, entriesOf};
 ghost use Rattle.bodies.specs.Body.{block, bodyOf};
 
 // The entries of a block's values, and 0 behind them: "The last block is filled up with entries of 0."
-fn block_entries(mode: Mode, values: &[u32]) -> [u32; 256]
+fn filled_entries(mode: Mode, values: &[u32]) -> [u32; 256]
     requires { ⌜ length (now values) ≤ 256 ⌝ }
     ensures { λ r. ⌜ r ≡ over (entriesOf mode (now (values .entry))) (replicate 256 0) ⌝ }
 {
@@ -38,13 +38,14 @@ fn length_of(lanes: usize, mode: Mode, values: &[u32]) -> usize
     ensures { λ r. ⌜ r ≡ length (block lanes (entriesOf mode (now (values .entry)))) ⌝ }
     ensures { λ r. ⌜ r ≤ 1025 ⌝ }
 {
-    let block = block_entries(mode, values);
+    let block = filled_entries(mode, values);
     block_length(
         lanes,
         num_bits(lanes, Mode::Plain, &block[..32 * lanes]).width,
     )
 }
 
+// The length of the body of some values.
 pub(crate) fn body_length(lanes: usize, mode: Mode, values: &[u32]) -> usize
     requires { ⌜ (isLanes lanes ≡ true) × (length (now values) ≤ most) ⌝ }
     ensures { λ r. ⌜ r ≡ length (bodyOf lanes mode (now (values .entry))) ⌝ }
@@ -67,7 +68,7 @@ fn store_block(lanes: usize, mode: Mode, values: &[u32], body: &mut [u8]) -> usi
     ensures { λ r. ⌜ r ≡ length (block lanes (entriesOf mode (now (values .entry)))) ⌝ }
     ensures { λ r. ⌜ now (body .exit) ≡ over (block lanes (entriesOf mode (now (values .entry)))) (now (body .entry)) ⌝ }
 {
-    let block = block_entries(mode, values);
+    let block = filled_entries(mode, values);
     let width = num_bits(lanes, Mode::Plain, &block[..32 * lanes]).width;
     body[0] = (width % 256) as u8;
     compress(
@@ -80,7 +81,7 @@ fn store_block(lanes: usize, mode: Mode, values: &[u32], body: &mut [u8]) -> usi
     block_length(lanes, width)
 }
 
-// Answers the body's length.
+// The body of some values, at the front of `body`. Answers its length.
 pub(crate) fn store_body(lanes: usize, mode: Mode, values: &[u32], body: &mut [u8]) -> usize
     requires { ⌜ (isLanes lanes ≡ true) × (length (now values) ≤ most) × (length (bodyOf lanes mode (now values)) ≤ length (now body)) ⌝ }
     ensures { λ r. ⌜ r ≡ length (bodyOf lanes mode (now (values .entry))) ⌝ }

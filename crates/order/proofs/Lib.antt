@@ -1,4 +1,4 @@
 pub mod Steps
-pub mod Openings
+pub mod Beginnings
 pub mod Going
 pub mod Blockwise

@@ -1,6 +1,6 @@
 -- The order of "Lists" in document 01, and a list's entries and values, one after another. The mode goes along with them: past a
--- value it is the list's mode with that value in place of the first number. So the ends of blocks play no part here, and "the
--- previous value of a block's first is the last value of the block before" by itself.
+-- value it is the list's mode with that value in place of the first number. So the ends of blocks play no part here. That "the
+-- previous value of a block's first is the last value of the block before" is a theorem (crates/bodies/proofs/Onward, body-next).
 use mathlib.Core.Path.{_≡_}
 use mathlib.Core.Bool.{Bool, true, _&&_, cond}
 use mathlib.Core.List.{List, [], _∷_}
@@ -15,20 +15,20 @@ use Rattle.modes.specs.declared.Mode.the-variants.{Plain, Sorted, Strict}
 use Rattle.modes.specs.Entries.{firstOf, entryOf, valueOf}
 use Rattle.order.specs.declared.Course.{Course}
 
--- "A list has 0 to 4,096 values."
+-- the most values of a list: "A list has 0 to 4,096 values."
 abbrev pub most : ℕ
 most = 4096
 
--- "Strict with none, and strict with 4,294,967,295, put no bound on the first": the mode that a list starts with. Past the first
--- value 4,294,967,295 bounds like any other.
-abbrev pub openedInitial : Initial → Initial
-openedInitial None = None
-openedInitial (Number f) = cond (eqb f 4294967295) None (Number f)
+-- "Strict with none, and strict with 4,294,967,295, put no bound on the first."
+abbrev pub startingInitial : Initial → Initial
+startingInitial None = None
+startingInitial (Number f) = cond (eqb f 4294967295) None (Number f)
 
-abbrev pub opened : Mode → Mode
-opened Plain = Plain
-opened (Sorted f) = Sorted f
-opened (Strict i) = Strict (openedInitial i)
+-- the mode that a list starts with. Past its first value, 4,294,967,295 bounds like any other number.
+abbrev pub starting : Mode → Mode
+starting Plain = Plain
+starting (Sorted f) = Sorted f
+starting (Strict i) = Strict (startingInitial i)
 
 -- the mode past the value v
 abbrev pub after : Mode → ℕ → Mode
@@ -55,13 +55,13 @@ unfoldable pub ordered : Mode → List ℕ → Bool
 ordered m [] = true
 ordered m (v ∷ vs) = admits m v && ordered (after m v) vs
 
--- vs is a list of count values in the mode's order
+-- vs is a list of count values, at most 4,096, in the mode's order
 pub record IsList (m : Mode) (count : ℕ) (vs : List ℕ) : Type 0 where
   pub size : length vs ≡ count
   pub few : count ≤ most
   -- "A value is 0 to 4,294,967,295."
   pub small : Below (2 ^ 32) vs
-  pub order : ordered (opened m) vs ≡ true
+  pub order : ordered (starting m) vs ≡ true
 
 -- the entry of the value v, and the value of the entry e, where it comes next
 abbrev pub nextEntry : Mode → ℕ → ℕ

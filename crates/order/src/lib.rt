@@ -5,10 +5,10 @@ use modes::Initial;
 use modes::Mode;
 use modes::initial_value;
 ghost use mathlib.Core.Path.{_≡_};
-ghost use Rattle.order.specs.Order.{openedInitial, opened, after, admits, ordered, nextEntry, nextValue, valuesOf, course};
+ghost use Rattle.order.specs.Order.{startingInitial, starting, after, admits, ordered, nextEntry, nextValue, valuesOf, course};
 
-fn opened_initial(start: Initial) -> Initial
-    ensures { λ r. ⌜ r ≡ openedInitial start ⌝ }
+fn starting_initial(start: Initial) -> Initial
+    ensures { λ r. ⌜ r ≡ startingInitial start ⌝ }
 {
     match start {
         Initial::None => Initial::None,
@@ -21,13 +21,13 @@ fn opened_initial(start: Initial) -> Initial
 }
 
 // The mode that a list starts with: strict with 4,294,967,295 puts no bound on the first value.
-pub fn opened(mode: Mode) -> Mode
-    ensures { λ r. ⌜ r ≡ opened mode ⌝ }
+pub fn starting(mode: Mode) -> Mode
+    ensures { λ r. ⌜ r ≡ starting mode ⌝ }
 {
     match mode {
         Mode::Plain => Mode::Plain,
         Mode::Sorted(first) => Mode::Sorted(first),
-        Mode::Strict(start) => Mode::Strict(opened_initial(start)),
+        Mode::Strict(start) => Mode::Strict(starting_initial(start)),
     }
 }
 
@@ -97,13 +97,13 @@ pub fn in_order(mode: Mode, values: &[u32]) -> bool
     true
 }
 
-// Whether the values that some entries stand for are in order, and the mode past them.
+// Whether some values are in order, and the mode past them; the mode before them where they are not.
 pub struct Course {
     pub orderly: bool,
     pub mode: Mode,
 }
 
-// Goes through the values of the entries.
+// The course of the values that the entries stand for.
 pub fn walk(mode: Mode, entries: &[u32]) -> Course
     ensures { λ r. ⌜ r ≡ course mode (valuesOf mode (now (entries .entry))) ⌝ }
 {

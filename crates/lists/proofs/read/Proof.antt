@@ -5,7 +5,7 @@ use borrow.Author.Tests.{not-true, not-false}
 use lib.ListN.{length}
 use Rattle.blocks.specs.Refusals.{accepted}
 use Rattle.blocks.proofs.Answers.{refused, untouched, answered, overwritten}
-use Rattle.bodies.specs.Body.{blocks}
+use Rattle.bodies.specs.Body.{blockCount}
 use Rattle.bodies.specs.Reading.{listOf}
 use Rattle.lists.proofs.Accepts.{Readable, read-exactly}
 use Rattle.lists.proofs.Fetches.{frames-good}
@@ -30,7 +30,7 @@ fetch-body-requires : tie.Need-fetch-body-requires
 fetch-body-requires c κs =
     let p = able (c .before) in
     let a = c .before .before .before .before .before .before .args in
-    (p .lanes, p .few, p .enough, frames-good (blocks (a .lanes) (a .count)) _ _ _ (a .body .now) (p .body))
+    (p .lanes, p .few, p .enough, frames-good (blockCount (a .lanes) (a .count)) _ _ _ (a .body .now) (p .body))
 
 returns-2 : tie.Need-returns-2
 returns-2 c =

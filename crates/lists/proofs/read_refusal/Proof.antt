@@ -25,7 +25,7 @@ body-refusal-requires c κs = (good (c .before .before .before), c .before .befo
 returns-4 : tie.Need-returns-4
 returns-4 c =
     let e = c .before .before in
-    rw (good (e .before .before), le-ltb 4096 _ (e .before .if2 .left), le-ltb _ _ (e .if3 .left)) (c .body-refusal .ensures ∙ rw (c .before .opened .ensures))
+    rw (good (e .before .before), le-ltb 4096 _ (e .before .if2 .left), le-ltb _ _ (e .if3 .left)) (c .body-refusal .ensures ∙ rw (c .before .starting .ensures))
 
 pub read-refusal-spec : {M : Type 1} → statement M
 read-refusal-spec =

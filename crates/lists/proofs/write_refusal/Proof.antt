@@ -1,11 +1,9 @@
 -- Each test is the definition's, in its order.
-use mathlib.Core.Path.{_≡_, sym, _∙_, ap}
+use mathlib.Core.Path.{_≡_, sym, _∙_}
 use mathlib.Core.Bool.{true}
-use mathlib.Core.List.{List}
-use Prim.Native.Nat.{ℕ}
 use borrow.Author.Tests.{lt-ltb, le-ltb, not-true, not-false}
 use Rattle.blocks.specs.Calls.{isLanes}
-use Rattle.order.specs.Order.{opened, ordered}
+use Rattle.order.specs.Order.{starting, ordered}
 use borrow.Author.Needs.{needs}
 use Rattle.lists.proofs.write_refusal.Statement.{statement}
 use Rattle.lists.proofs.write_refusal.Tie as tie
@@ -14,8 +12,8 @@ good : (c : tie.Else1) → isLanes (c .before .before .before .args .lanes) ≡ 
 good c = sym (c .before .is-lanes .ensures) ∙ not-false _ (c .if1 .left)
 
 -- what `in_order` told is of the mode that a list starts with
-told : (c : tie.After-in-order) → c .in-order .result ≡ ordered (opened (c .before .before .before .before .before .before .args .mode)) (c .before .before .before .before .before .before .args .values .now)
-told c = c .in-order .ensures ∙ rw (c .before .opened .ensures)
+told : (c : tie.After-in-order) → c .in-order .result ≡ ordered (starting (c .before .before .before .before .before .before .args .mode)) (c .before .before .before .before .before .before .args .values .now)
+told c = c .in-order .ensures ∙ rw (c .before .starting .ensures)
 
 returns : tie.Need-returns
 returns c = rw (sym (c .before .is-lanes .ensures) ∙ not-true _ (c .if1 .taken))

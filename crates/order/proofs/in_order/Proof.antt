@@ -1,7 +1,6 @@
 -- Past the first i values all were in order.
 use mathlib.Core.Path.{sym, _∙_}
 use Prim.Native.Nat.{_-_}
-use native.Mathlib.Omega.{arith}
 use borrow.Author.Tests.{not-true, not-false}
 use lib.ListN.{length, take}
 use Rattle.order.proofs.Going.{Going, going-none, going-on, out-of-order, all-in-order}

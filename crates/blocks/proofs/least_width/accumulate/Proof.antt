@@ -13,10 +13,10 @@ use Rattle.lanes.proofs.Rows.{lane-of}
 use Rattle.layout.proofs.Joined.{or-none, or-more}
 use Rattle.modes.specs.Entries.{firstOf, entries}
 use Rattle.modes.proofs.Steps.{entries-row, last-start, last-next}
-use Rattle.blocks.proofs.Parts.{part-at, part-length}
 use borrow.Author.Needs.{needs}
 use Rattle.blocks.proofs.least_width.accumulate.Statement.{statement}
 use Rattle.blocks.proofs.least_width.accumulate.Tie as tie
+use Rattle.layout.proofs.Parts.{part-at, part-length}
 
 abbrev Inv-loop : tie.InvT-loop
 Inv-loop lanes mode values previous₀ accumulator₀ row₀ previous accumulator row =

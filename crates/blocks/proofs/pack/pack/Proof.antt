@@ -11,11 +11,12 @@ use Rattle.layout.proofs.Products.{below-mul}
 use Rattle.layout.proofs.Widths.{of-fits}
 use Rattle.modes.specs.Entries.{firstOf, entries}
 use Rattle.modes.proofs.Steps.{entries-row, last-start, last-next}
-use Rattle.blocks.proofs.Parts.{part-at, part-length, words-back}
+use Rattle.blocks.proofs.Parts.{words-back}
 use Rattle.blocks.proofs.Packing.{Packing, pack-start, pack-keep, pack-store, pack-end, pack-word, pack-room}
 use borrow.Author.Needs.{needs}
 use Rattle.blocks.proofs.pack.pack.Statement.{statement}
 use Rattle.blocks.proofs.pack.pack.Tie as tie
+use Rattle.layout.proofs.Parts.{part-at, part-length}
 
 abbrev Inv-loop : tie.InvT-loop
 Inv-loop lanes mode values out₀ width previous₀ out-register₀ word₀ inner-cursor₀ row₀ out previous out-register word inner-cursor row =

@@ -12,11 +12,12 @@ use Rattle.modes.specs.Entries.{firstOf, values}
 use Rattle.modes.proofs.Steps.{values-row, last-start, last-next}
 use Rattle.blocks.specs.Calls.{unpacked}
 use Rattle.blocks.specs.kernel.Registers.{Held}
-use Rattle.blocks.proofs.Parts.{part-length, row-back}
+use Rattle.blocks.proofs.Parts.{row-back}
 use Rattle.blocks.proofs.Unpacking.{Unpacking, held-none, unpack-start, unpack-more, unpack-end}
 use borrow.Author.Needs.{needs}
 use Rattle.blocks.proofs.unpack.unpack.Statement.{statement}
 use Rattle.blocks.proofs.unpack.unpack.Tie as tie
+use Rattle.layout.proofs.Parts.{part-length}
 
 abbrev Inv-loop : tie.InvT-loop
 Inv-loop lanes mode bytes out₀ width current₀ held₀ row₀ out current held row =

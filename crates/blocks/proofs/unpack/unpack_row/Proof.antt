@@ -5,11 +5,12 @@ use native.Mathlib.Nat.{mul-le-mul, le-of-lt}
 use native.Mathlib.Omega.{arith}
 use Rattle.layout.specs.Layout.{at, payloadSize, wordAt}
 use Rattle.blocks.specs.kernel.Registers.{bitsLeft}
-use Rattle.blocks.proofs.Parts.{part-word, part-length}
+use Rattle.blocks.proofs.Parts.{part-word}
 use Rattle.blocks.proofs.Unpacking.{reach-row, reach-held, more-row, more-held, more-room}
 use borrow.Author.Needs.{needs}
 use Rattle.blocks.proofs.unpack.unpack_row.Statement.{statement}
 use Rattle.blocks.proofs.unpack.unpack_row.Tie as tie
+use Rattle.layout.proofs.Parts.{part-length}
 
 mul-start : tie.Need-mul-start
 mul-start c = omega (arith, mul-le-mul (le-of-lt (c .before .before .before .pre .0 .2)) (c .before .before .before .pre .0 .1))

@@ -1,9 +1,6 @@
 -- Filling and then the least width, as the definition has them.
-use mathlib.Core.Path.{_≡_, sym, _∙_}
-use mathlib.Core.Bool.{true}
-use native.Mathlib.Omega.{arith}
+use mathlib.Core.Path.{sym, _∙_}
 use borrow.Author.Tests.{eq-eqb, ne-eqb, not-true, not-false}
-use lib.ListN.{length}
 use Rattle.layout.specs.Layout.{at, blockSize}
 use Rattle.layout.specs.Width.{leastWidth}
 use Rattle.bodies.specs.Reading.{entriesRefusal}

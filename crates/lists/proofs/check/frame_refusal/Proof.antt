@@ -1,10 +1,6 @@
 -- Each test is the definition's, in its order.
-use mathlib.Core.Path.{_∙_, sym, ap}
-use Prim.Native.Nat.{ℕ, _+_, _≤_}
 use borrow.Author.Tests.{lt-ltb, le-ltb}
-use lib.ListN.{length}
-use Rattle.layout.specs.Layout.{payloadSize}
-use Rattle.bodies.specs.Reading.{frameRefusal, widthAt, sizeAt}
+use Rattle.bodies.specs.Reading.{frameRefusal}
 use borrow.Author.Needs.{needs}
 use Rattle.lists.proofs.check.frame_refusal.Statement.{statement}
 use Rattle.lists.proofs.check.frame_refusal.Tie as tie

@@ -1,7 +1,6 @@
 -- The first i are 0.
-use mathlib.Core.Path.{_≡_, sym}
-use mathlib.Core.Bool.{true}
-use Prim.Native.Nat.{ℕ, _-_, _<_}
+use mathlib.Core.Path.{sym}
+use Prim.Native.Nat.{_-_}
 use lib.ListN.{length}
 use native.Mathlib.Omega.{arith}
 use Rattle.layout.specs.Layout.{at}

@@ -1,5 +1,5 @@
 -- The whole block is unpacked in place, and its last value is the next block's previous.
-use mathlib.Core.Path.{_≡_, _∙_}
+use mathlib.Core.Path.{_∙_}
 use native.Mathlib.Omega.{arith}
 use Rattle.blocks.proofs.Tests.{lanes-of}
 use Rattle.bodies.proofs.Tests.{framed}

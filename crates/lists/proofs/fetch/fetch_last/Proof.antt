@@ -1,10 +1,9 @@
 -- The block is unpacked into one of the reader's own, and its first values are copied.
-use mathlib.Core.Path.{_≡_, refl, sym, _∙_, ap}
+use mathlib.Core.Path.{sym, _∙_, ap}
 use mathlib.Core.List.{List}
 use native.Mathlib.Omega.{arith}
-use lib.ListN.{length, replicate}
+use lib.ListN.{replicate}
 use lib.Seq.{length-take-le}
-use Rattle.blocks.specs.Calls.{over}
 use Rattle.blocks.proofs.Tests.{lanes-of}
 use Rattle.bodies.proofs.Tests.{framed}
 use Rattle.lists.proofs.BlockCalls.{unpack-is}
@@ -12,6 +11,7 @@ use Rattle.lists.proofs.Fetches.{own-block}
 use borrow.Author.Needs.{needs}
 use Rattle.lists.proofs.fetch.fetch_last.Statement.{statement}
 use Rattle.lists.proofs.fetch.fetch_last.Tie as tie
+use Rattle.layout.specs.Layout.{over}
 
 sub-decompress : tie.Need-sub-decompress
 sub-decompress c = omega (arith, framed _ _ (c .before .before .pre .1) .some)

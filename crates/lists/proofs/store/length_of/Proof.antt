@@ -1,5 +1,5 @@
 -- The width is that of the filled entries, and the length follows from it.
-use mathlib.Core.Path.{_≡_, sym}
+use mathlib.Core.Path.{sym}
 use native.Mathlib.Omega.{arith}
 use Rattle.blocks.proofs.Tests.{lanes-of}
 use Rattle.order.specs.Order.{entriesOf}
@@ -9,16 +9,16 @@ use borrow.Author.Needs.{needs}
 use Rattle.lists.proofs.store.length_of.Statement.{statement}
 use Rattle.lists.proofs.store.length_of.Tie as tie
 
-block-entries-requires : tie.Need-block-entries-requires
-block-entries-requires c κs = omega (arith, lanes-of _ (c .before .pre .0), c .before .pre .1)
+filled-entries-requires : tie.Need-filled-entries-requires
+filled-entries-requires c κs = omega (arith, lanes-of _ (c .before .pre .0), c .before .pre .1)
 
 mul-block : tie.Need-mul-block
 mul-block c = omega (arith, lanes-of _ (c .before .before .pre .0))
 
-own : (c : tie.After-block-entries) → Own (c .before .before .args .lanes) (entriesOf (c .before .before .args .mode) (c .before .before .args .values .now)) (c .block-entries .result)
+own : (c : tie.After-filled-entries) → Own (c .before .before .args .lanes) (entriesOf (c .before .before .args .mode) (c .before .before .args .values .now)) (c .filled-entries .result)
 own c =
     let s = c .before .before in
-    own-of _ _ (s .args .values .now) _ (s .pre .0) (λ k. c .before .shared-slice-known .given k .fits) (s .pre .1) (c .block-entries .ensures)
+    own-of _ _ (s .args .values .now) _ (s .pre .0) (λ k. c .before .shared-slice-known .given k .fits) (s .pre .1) (c .filled-entries .ensures)
 
 array-share-prefix-block : tie.Need-array-share-prefix-block
 array-share-prefix-block c = own-length (own c)
@@ -42,7 +42,7 @@ pub length-of-spec : {M : Type 1} → statement M
 length-of-spec =
     tie.close
     (tie.spec
-    block-entries-requires
+    filled-entries-requires
     mul-block
     array-share-prefix-block
     slice-aggregate-num-bits

@@ -1,7 +1,7 @@
 -- The width byte, and behind it the payload of the filled entries.
-use mathlib.Core.Path.{_≡_, sym, _∙_}
+use mathlib.Core.Path.{sym, _∙_}
 use mathlib.Core.List.{List}
-use Prim.Native.Nat.{ℕ, _-_, _%_, _≤_}
+use Prim.Native.Nat.{ℕ, _-_, _%_}
 use native.Mathlib.Omega.{arith}
 use lib.ListN.{length, set, length-set}
 use borrow.Rule.Slice.PartMut.{same-len-mid}
@@ -12,16 +12,16 @@ use borrow.Author.Needs.{needs}
 use Rattle.lists.proofs.store.store_block.Statement.{statement}
 use Rattle.lists.proofs.store.store_block.Tie as tie
 
-block-entries-requires : tie.Need-block-entries-requires
-block-entries-requires c κs = omega (arith, lanes-of _ (c .before .before .pre .0), c .before .before .pre .1)
+filled-entries-requires : tie.Need-filled-entries-requires
+filled-entries-requires c κs = omega (arith, lanes-of _ (c .before .before .pre .0), c .before .before .pre .1)
 
 mul-block : tie.Need-mul-block
 mul-block c = omega (arith, lanes-of _ (c .before .before .before .pre .0))
 
-own : (c : tie.After-block-entries) → Own (c .before .before .before .args .lanes) (entriesOf (c .before .before .before .args .mode) (c .before .before .before .args .values .now)) (c .block-entries .result)
+own : (c : tie.After-filled-entries) → Own (c .before .before .before .args .lanes) (entriesOf (c .before .before .before .args .mode) (c .before .before .before .args .values .now)) (c .filled-entries .result)
 own c =
     let s = c .before .before .before in
-    own-of _ _ (s .args .values .now) _ (s .pre .0) (λ k. c .before .before .shared-slice-known .given k .fits) (s .pre .1) (c .block-entries .ensures)
+    own-of _ _ (s .args .values .now) _ (s .pre .0) (λ k. c .before .before .shared-slice-known .given k .fits) (s .pre .1) (c .filled-entries .ensures)
 
 array-share-prefix-block : tie.Need-array-share-prefix-block
 array-share-prefix-block c = own-length (own c)
@@ -73,7 +73,7 @@ pub store-block-spec : {M : Type 1} → statement M
 store-block-spec =
     tie.close
     (tie.spec
-    block-entries-requires
+    filled-entries-requires
     mul-block
     array-share-prefix-block
     slice-aggregate-num-bits

@@ -1,8 +1,8 @@
 -- 4,294,967,295 is as none.
 use borrow.Author.Tests.{ne-eqb}
 use borrow.Author.Needs.{needs}
-use Rattle.order.proofs.opened_initial.Statement.{statement}
-use Rattle.order.proofs.opened_initial.Tie as tie
+use Rattle.order.proofs.starting_initial.Statement.{statement}
+use Rattle.order.proofs.starting_initial.Tie as tie
 
 returns-3 : tie.Need-returns-3
 returns-3 c = rw (c .before .before .start .given .1, ne-eqb _ 4294967295 (c .if1 .left))
@@ -13,8 +13,8 @@ returns c = search needs
 returns-2 : tie.Need-returns-2
 returns-2 c = search needs
 
-pub opened-initial-spec : {M : Type 1} → statement M
-opened-initial-spec =
+pub starting-initial-spec : {M : Type 1} → statement M
+starting-initial-spec =
     tie.close
     (tie.spec
     (search needs)

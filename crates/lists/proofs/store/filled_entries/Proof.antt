@@ -1,11 +1,11 @@
 -- The entries of the first i values are there.
-use Prim.Native.Nat.{ℕ, _-_}
+use Prim.Native.Nat.{_-_}
 use native.Mathlib.Omega.{arith}
 use lib.ListN.{length}
 use Rattle.lists.proofs.Stores.{Filling, filling-none, filling-more, filling-all}
 use borrow.Author.Needs.{needs}
-use Rattle.lists.proofs.store.block_entries.Statement.{statement}
-use Rattle.lists.proofs.store.block_entries.Tie as tie
+use Rattle.lists.proofs.store.filled_entries.Statement.{statement}
+use Rattle.lists.proofs.store.filled_entries.Tie as tie
 
 abbrev Inv-loop : tie.InvT-loop
 Inv-loop values block₀ running₀ i₀ block running i = Filling running₀ values block₀ running i block
@@ -28,8 +28,8 @@ loop-again c =
 returns : tie.Need-returns Inv-loop μ-loop
 returns c = filling-all (c .before .loop .inv) (c .loop-test .left)
 
-pub block-entries-spec : {M : Type 1} → statement M
-block-entries-spec =
+pub filled-entries-spec : {M : Type 1} → statement M
+filled-entries-spec =
     tie.close
     (tie.spec
     Inv-loop

@@ -1,4 +1,4 @@
-// How long a block of a body is, and how many of a list's values it holds.
+// How long a block of a body is, and how many of a list's values a block holds.
 use blocks::compressed_block_size;
 ghost use mathlib.Core.Path.{_≡_};
 ghost use mathlib.Core.Bool.{true};

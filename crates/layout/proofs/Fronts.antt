@@ -7,9 +7,8 @@ use native.Mathlib.Omega.{arith}
 use lib.ListN.{length, set, take, drop, length-append, length-drop}
 use lib.Seq.{drop-cons, set-at, take-at, drop-at, drop-drop, drop-length}
 use borrow.Rule.Slice.PartMut.{midOf, postOf, putMid, post-is}
-use Rattle.layout.specs.Layout.{at}
-use Rattle.blocks.specs.Calls.{over}
-use Rattle.blocks.proofs.Parts.{part-is}
+use Rattle.layout.specs.Layout.{at, over}
+use Rattle.layout.proofs.Parts.{part-is}
 
 -- ws stands at the front of out, and `before` behind it
 pub record Front (ws before out : List ℕ) : Type 0 where

@@ -4,8 +4,8 @@ use Prim.Native.Nat.{ℕ, _+_}
 use native.Mathlib.Omega.{arith}
 use Rattle.lists.proofs.BlockCalls.{size-small, size-is}
 use borrow.Author.Needs.{needs}
-use Rattle.lists.proofs.blocked.block_length.Statement.{statement}
-use Rattle.lists.proofs.blocked.block_length.Tie as tie
+use Rattle.lists.proofs.sizes.block_length.Statement.{statement}
+use Rattle.lists.proofs.sizes.block_length.Tie as tie
 
 add-result : tie.Need-add-result
 add-result c =

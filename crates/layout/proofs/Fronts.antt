@@ -5,10 +5,14 @@ use Prim.Native.Nat.{ℕ, _+_, _-_, _≤_, _<_}
 use native.Mathlib.Numerals.{add-one}
 use native.Mathlib.Omega.{arith}
 use lib.ListN.{length, set, take, drop, length-append, length-drop}
-use lib.Seq.{drop-cons, set-at, take-at, drop-at, drop-drop, drop-length}
+use lib.Seq.{take-suc, drop-cons, set-at, take-at, drop-at, drop-drop, drop-length}
 use borrow.Rule.Slice.PartMut.{midOf, postOf, putMid, post-is}
 use Rattle.layout.specs.Layout.{at, over}
 use Rattle.layout.proofs.Parts.{part-is}
+
+-- one number more of a list
+pub take-more : (xs : List ℕ) (i : ℕ) → i < length xs → take (i + 1) xs ≡ take i xs ++ (at xs i ∷ [])
+take-more xs i lt = rw add-one (take-suc xs i 0 lt)
 
 -- ws stands at the front of out, and `before` behind it
 pub record Front (ws before out : List ℕ) : Type 0 where

@@ -15,34 +15,38 @@ use Rattle.order.specs.Order.{most, starting, ordered}
 use Rattle.bodies.specs.Body.{bodyOf}
 use Rattle.bodies.specs.Reading.{valuesRefusal, bodyRefusal}
 use Rattle.bodies.proofs.Tests.{both}
-use Rattle.lists.specs.Calls.{writeRefusal, readRefusal}
+use Rattle.lists.specs.Calls.{measureRefusal, writeRefusal, readRefusal}
 
--- what writing accepts
-pub record Writable (L : ℕ) (m : Mode) (vs : List ℕ) (room : ℕ) : Type 0 where
+-- what measuring accepts
+pub record Measurable (L : ℕ) (m : Mode) (vs : List ℕ) : Type 0 where
   pub lanes : isLanes L ≡ true
   pub few : length vs ≤ most
   pub order : ordered (starting m) vs ≡ true
-  pub enough : length (bodyOf L m vs) ≤ room
 
-pub write-exactly : (L : ℕ) (m : Mode) (vs : List ℕ) (room : ℕ) → (accepted (writeRefusal L m vs room) ≡ true) ↔ Writable L m vs room
-write-exactly L m vs room = (
-  there,
-  λ s. rw (s .lanes, le-ltb most (length vs) (s .few), s .order, le-ltb room (length (bodyOf L m vs)) (s .enough)),
-)
+pub measure-exactly : (L : ℕ) (m : Mode) (vs : List ℕ) → (accepted (measureRefusal L m vs) ≡ true) ↔ Measurable L m vs
+unfolding measureRefusal
+measure-exactly L m vs = (there, λ s. rw (s .lanes, le-ltb most (length vs) (s .few), s .order))
   where
-    there : accepted (writeRefusal L m vs room) ≡ true → Writable L m vs room
+    there : accepted (measureRefusal L m vs) ≡ true → Measurable L m vs
     there h =
         let a = passed _ BadLanes _ refl h in
         let b = passed _ TooMany _ refl (a .1) in
-        let c = both (valuesRefusal (starting m) vs) _ (b .1) in
-        let d = passed _ OutOfOrder Accepted refl (c .0) in
-        let e = passed _ NoRoom Accepted refl (c .1) in
-        record {
-          lanes = not-false _ (a .0);
-          few = ltb-false most (length vs) (b .0);
-          order = not-false _ (d .0);
-          enough = ltb-false room (length (bodyOf L m vs)) (e .0);
-        }
+        let c = passed _ OutOfOrder Accepted refl (b .1) in
+        record { lanes = not-false _ (a .0); few = ltb-false most (length vs) (b .0); order = not-false _ (c .0) }
+
+-- what writing accepts
+pub record Writable (L : ℕ) (m : Mode) (vs : List ℕ) (room : ℕ) : Type 0 where
+  pub list : Measurable L m vs
+  pub enough : length (bodyOf L m vs) ≤ room
+
+pub write-exactly : (L : ℕ) (m : Mode) (vs : List ℕ) (room : ℕ) → (accepted (writeRefusal L m vs room) ≡ true) ↔ Writable L m vs room
+write-exactly L m vs room = (there, λ s. rw (measure-exactly L m vs .1 (s .list), le-ltb room (length (bodyOf L m vs)) (s .enough)))
+  where
+    there : accepted (writeRefusal L m vs room) ≡ true → Writable L m vs room
+    there h =
+        let a = both (measureRefusal L m vs) _ h in
+        let b = passed _ NoRoom Accepted refl (a .1) in
+        record { list = measure-exactly L m vs .0 (a .0); enough = ltb-false room (length (bodyOf L m vs)) (b .0) }
 
 -- what reading accepts
 pub record Readable (L : ℕ) (m : Mode) (count : ℕ) (bs : List ℕ) (room : ℕ) : Type 0 where

@@ -78,7 +78,7 @@ module _ (L : ℕ) (m : Mode) (lanes : isLanes L ≡ true) (first : firstOf m < 
   -- writing
   pub demand-writes : (count : ℕ) (vs before : List ℕ) → IsList m count vs → length (bodyOf L m vs) ≤ length before → Writes L m vs before
   demand-writes count vs before l enough =
-      let ok : accepted (writeRefusal L m vs (length before)) ≡ true = write-exactly L m vs (length before) .1 (record { lanes = lanes; few = rw (l .size) (l .few); order = l .order; enough = enough }) in
+      let ok : accepted (writeRefusal L m vs (length before)) ≡ true = write-exactly L m vs (length before) .1 (record { list = record { lanes = lanes; few = rw (l .size) (l .few); order = l .order }; enough = enough }) in
       record {
         answered = accepted-answer (writeRefusal L m vs (length before)) (length (bodyOf L m vs)) ok;
         written = accepted-output (writeRefusal L m vs (length before)) (bodyOf L m vs) before ok;

@@ -7,8 +7,9 @@ use Rattle.blocks.specs.Calls.{isLanes, unpacked}
 use Rattle.order.specs.Order.{afterAll, ordered, entriesOf, valuesOf}
 use Rattle.bodies.specs.Body.{block, blockCount, blocksOf, bodyOf}
 use Rattle.bodies.specs.Reading.{frameRefusal, entriesRefusal, shapeRefusal, blockRefusal, refusalFrom, entriesFrom, listOf}
+use Rattle.lists.specs.Calls.{measureRefusal}
 use Rattle.lists.specs.Starred.{starred}
 
 pub starred-hold : map (λ c. c .given) starred ≡ map (λ c. c .said) starred
-unfolding starred packed table payloadByte entryBits byteBits payloadEntry number bit fits leastFrom leastWidth isLanes unpacked afterAll ordered entriesOf valuesOf block blockCount blocksOf bodyOf frameRefusal entriesRefusal shapeRefusal blockRefusal refusalFrom entriesFrom listOf
+unfolding starred packed table payloadByte entryBits byteBits payloadEntry number bit fits leastFrom leastWidth isLanes unpacked afterAll ordered entriesOf valuesOf block blockCount blocksOf bodyOf frameRefusal entriesRefusal shapeRefusal blockRefusal refusalFrom entriesFrom listOf measureRefusal
 starred-hold = refl

@@ -14,14 +14,23 @@ use Rattle.order.specs.Order.{most, starting}
 use Rattle.bodies.specs.Body.{bodyOf}
 use Rattle.bodies.specs.Reading.{orElse, valuesRefusal, bodyRefusal, listOf}
 
+-- what values are refused for, whatever the room: the 1, 7, 8 of writing
+unfoldable pub measureRefusal : ℕ → Mode → List ℕ → Refusal
+measureRefusal L m vs =
+    refuse (not (isLanes L)) BadLanes
+    (refuse (ltb most (length vs)) TooMany
+    (valuesRefusal (starting m) vs))
+
+-- the length that the body has
+abbrev pub measureAnswer : ℕ → Mode → List ℕ → Answer
+measureAnswer L m vs = answer (measureRefusal L m vs) (length (bodyOf L m vs))
+
 -- "Write a list: 1, 7, 8, 4", for the values vs and an output of `room` bytes
 abbrev pub writeRefusal : ℕ → Mode → List ℕ → ℕ → Refusal
 writeRefusal L m vs room =
-    refuse (not (isLanes L)) BadLanes
-    (refuse (ltb most (length vs)) TooMany
-    (orElse (valuesRefusal (starting m) vs)
+    orElse (measureRefusal L m vs)
     (refuse (ltb room (length (bodyOf L m vs))) NoRoom
-    Accepted)))
+    Accepted)
 
 -- the body's length, and the body at the front of the output
 abbrev pub writeAnswer : ℕ → Mode → List ℕ → ℕ → Answer

@@ -1,4 +1,4 @@
-// The two list calls of document 01. Each takes any input, tests all of it before it writes anything, and writes nothing where it refuses.
+// The list calls of document 01, and one that measures. Each takes any input, tests all of it before it writes anything, and writes nothing where it refuses.
 use blocks::Answer;
 use blocks::is_lanes;
 use blocks::refusal::Refusal;
@@ -11,15 +11,15 @@ use store::body_length;
 use store::store_body;
 ghost use mathlib.Core.Path.{_≡_};
 ghost use lib.ListN.{length};
-ghost use Rattle.lists.specs.Calls.{writeRefusal, writeAnswer, writeOutput, readRefusal, readAnswer, readOutput};
+ghost use Rattle.lists.specs.Calls.{measureRefusal, measureAnswer, writeRefusal, writeAnswer, writeOutput, readRefusal, readAnswer, readOutput};
 
 mod check;
 mod fetch;
 mod sizes;
 mod store;
 
-fn write_refusal(lanes: usize, mode: Mode, values: &[u32], room: usize) -> Refusal
-    ensures { λ r. ⌜ r ≡ writeRefusal lanes mode (now (values .entry)) room ⌝ }
+fn measure_refusal(lanes: usize, mode: Mode, values: &[u32]) -> Refusal
+    ensures { λ r. ⌜ r ≡ measureRefusal lanes mode (now (values .entry)) ⌝ }
 {
     if !is_lanes(lanes) {
         return Refusal::BadLanes;
@@ -29,6 +29,30 @@ fn write_refusal(lanes: usize, mode: Mode, values: &[u32], room: usize) -> Refus
     }
     if !in_order(starting(mode), values) {
         return Refusal::OutOfOrder;
+    }
+    Refusal::Accepted
+}
+
+// Measure a list: how long its body is.
+pub fn measure(lanes: usize, mode: Mode, values: &[u32]) -> Answer
+    ensures { λ r. ⌜ r ≡ measureAnswer lanes mode (now (values .entry)) ⌝ }
+{
+    let refusal = measure_refusal(lanes, mode, values);
+    if !refusal.is_accepted() {
+        return Answer { refusal, length: 0 };
+    }
+    Answer {
+        refusal,
+        length: body_length(lanes, mode, values),
+    }
+}
+
+fn write_refusal(lanes: usize, mode: Mode, values: &[u32], room: usize) -> Refusal
+    ensures { λ r. ⌜ r ≡ writeRefusal lanes mode (now (values .entry)) room ⌝ }
+{
+    let refusal = measure_refusal(lanes, mode, values);
+    if !refusal.is_accepted() {
+        return refusal;
     }
     if room < body_length(lanes, mode, values) {
         return Refusal::NoRoom;

@@ -3,11 +3,11 @@ use mathlib.Core.Path.{_≡_, refl, sym, _∙_, ap}
 use mathlib.Core.Bool.{true, false}
 use mathlib.Core.List.{List, [], _∷_, _++_}
 use Prim.Native.Nat.{ℕ, _+_, _-_, _≤_, _<_}
-use native.Mathlib.Numerals.{add-one}
 use native.Mathlib.Omega.{arith}
 use lib.ListN.{length, take, drop, take-append-drop}
-use lib.Seq.{take-suc, take-all, take-length}
+use lib.Seq.{take-all, take-length}
 use Rattle.layout.specs.Layout.{at}
+use Rattle.layout.proofs.Fronts.{take-more}
 use Rattle.modes.specs.declared.Mode.{Mode}
 use Rattle.order.specs.declared.Course.{Course}
 use Rattle.order.specs.Order.{after, afterAll, admits, ordered, nextEntry, nextValue, entriesOf, valuesOf, course}
@@ -21,9 +21,6 @@ pub record Going (m : Mode) (vs : List ℕ) (next : Mode) : Type 0 where
 pub going-none : (m : Mode) → Going m [] m
 unfolding ordered afterAll
 going-none m = record { order = refl; mode = refl }
-
-pub take-more : (xs : List ℕ) (i : ℕ) → i < length xs → take (i + 1) xs ≡ take i xs ++ (at xs i ∷ [])
-take-more xs i lt = rw add-one (take-suc xs i 0 lt)
 
 pub after-more : (m next : Mode) (vs : List ℕ) (i : ℕ) → i < length vs → next ≡ afterAll m (take i vs) → after next (at vs i) ≡ afterAll m (take (i + 1) vs)
 after-more m next vs i lt e = rw (take-more vs i lt, after-append, after-one, ← e)

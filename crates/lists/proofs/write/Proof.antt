@@ -27,7 +27,7 @@ returns c =
 store-body-requires : tie.Need-store-body-requires
 store-body-requires c κs =
     let p = able (c .before) in
-    (p .lanes, p .few, p .enough)
+    (p .list .lanes, p .list .few, p .enough)
 
 returns-2 : tie.Need-returns-2
 returns-2 c =

@@ -1,60 +1,42 @@
--- Each test is the definition's, in its order.
-use mathlib.Core.Path.{_≡_, sym, _∙_}
+-- What the values are refused for, and then the room.
+use mathlib.Core.Path.{_≡_, sym, _∙_, ap}
 use mathlib.Core.Bool.{true}
 use borrow.Author.Tests.{lt-ltb, le-ltb, not-true, not-false}
-use Rattle.blocks.specs.Calls.{isLanes}
-use Rattle.order.specs.Order.{starting, ordered}
+use Rattle.blocks.specs.Refusals.{accepted}
+use Rattle.bodies.proofs.Tests.{first-stops}
+use Rattle.lists.specs.Calls.{measureRefusal}
+use Rattle.lists.proofs.Accepts.{measure-exactly}
 use borrow.Author.Needs.{needs}
 use Rattle.lists.proofs.write_refusal.Statement.{statement}
 use Rattle.lists.proofs.write_refusal.Tie as tie
 
-good : (c : tie.Else1) → isLanes (c .before .before .before .args .lanes) ≡ true
-good c = sym (c .before .is-lanes .ensures) ∙ not-false _ (c .if1 .left)
-
--- what `in_order` told is of the mode that a list starts with
-told : (c : tie.After-in-order) → c .in-order .result ≡ ordered (starting (c .before .before .before .before .before .before .args .mode)) (c .before .before .before .before .before .before .args .values .now)
-told c = c .in-order .ensures ∙ rw (c .before .starting .ensures)
-
 returns : tie.Need-returns
-returns c = rw (sym (c .before .is-lanes .ensures) ∙ not-true _ (c .if1 .taken))
+returns c =
+    let k = c .before .before .measure-refusal .ensures in
+    k ∙ sym (first-stops (measureRefusal _ _ _) _ (ap accepted (sym k) ∙ sym (c .before .is-accepted .ensures) ∙ not-true _ (c .if1 .taken)))
 
-returns-2 : tie.Need-returns-2
-returns-2 c = rw (good (c .before), lt-ltb 4096 _ (c .if2 .taken))
-
-returns-3 : tie.Need-returns-3
-returns-3 c =
-    let e = c .before .before .before in
-    rw (good (e .before), le-ltb 4096 _ (e .if2 .left), sym (told (c .before)) ∙ not-true _ (c .if3 .taken))
+good : (c : tie.Else1) → accepted (measureRefusal (c .before .before .before .before .args .lanes) (c .before .before .before .before .args .mode) (c .before .before .before .before .args .values .now)) ≡ true
+good c = ap accepted (sym (c .before .before .measure-refusal .ensures)) ∙ sym (c .before .is-accepted .ensures) ∙ not-false _ (c .if1 .left)
 
 body-length-requires : tie.Need-body-length-requires
 body-length-requires c κs =
-    let e = c .before .before .before in
-    (good (e .before), e .if2 .left)
+    let a = c .before .before .before .before .args in
+    let p = measure-exactly (a .lanes) (a .mode) (a .values .now) .0 (good c) in
+    (p .lanes, p .few)
 
-returns-4 : tie.Need-returns-4
-returns-4 c =
-    let b = c .before in
-    let o = b .before .before in
-    let e = o .before .before in
-    rw (good (e .before), le-ltb 4096 _ (e .if2 .left), sym (told o) ∙ not-false _ (b .before .if3 .left), lt-ltb _ _ (rw (b .body-length .ensures) at (c .if4 .taken)))
+returns-2 : tie.Need-returns-2
+returns-2 c = rw (good (c .before .before), lt-ltb _ _ (rw (c .before .body-length .ensures) at (c .if2 .taken)))
 
-returns-5 : tie.Need-returns-5
-returns-5 c =
-    let b = c .before in
-    let o = b .before .before in
-    let e = o .before .before in
-    rw (good (e .before), le-ltb 4096 _ (e .if2 .left), sym (told o) ∙ not-false _ (b .before .if3 .left), le-ltb _ _ (rw (b .body-length .ensures) at (c .if4 .left)))
+returns-3 : tie.Need-returns-3
+returns-3 c = rw (good (c .before .before), le-ltb _ _ (rw (c .before .body-length .ensures) at (c .if2 .left)))
 
 pub write-refusal-spec : {M : Type 1} → statement M
 write-refusal-spec =
     tie.close
     (tie.spec
     (search needs)
+    (search needs)
     returns
-    returns-2
-    (search needs)
-    (search needs)
-    returns-3
     body-length-requires
-    returns-4
-    returns-5)
+    returns-2
+    returns-3)

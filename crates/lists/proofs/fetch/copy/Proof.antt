@@ -5,8 +5,7 @@ use Prim.Native.Nat.{ℕ, _-_, _≤_}
 use lib.ListN.{length, take}
 use lib.Seq.{take-all, length-take-le}
 use native.Mathlib.Omega.{arith}
-use Rattle.order.proofs.Going.{take-more}
-use Rattle.layout.proofs.Fronts.{Front, front-none, front-length, front-put}
+use Rattle.layout.proofs.Fronts.{take-more, Front, front-none, front-length, front-put}
 use borrow.Author.Needs.{needs}
 use Rattle.lists.proofs.fetch.copy.Statement.{statement}
 use Rattle.lists.proofs.fetch.copy.Tie as tie

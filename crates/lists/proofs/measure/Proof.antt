@@ -1,0 +1,35 @@
+-- A refusal is passed on with length 0; else the body's length.
+use mathlib.Core.Path.{_≡_, sym, _∙_}
+use mathlib.Core.Bool.{true}
+use borrow.Author.Tests.{not-true, not-false}
+use Rattle.blocks.specs.Refusals.{accepted}
+use Rattle.blocks.proofs.Answers.{refused, answered}
+use Rattle.lists.proofs.Accepts.{measure-exactly}
+use borrow.Author.Needs.{needs}
+use Rattle.lists.proofs.measure.Statement.{statement}
+use Rattle.lists.proofs.measure.Tie as tie
+
+yes-accepted : (c : tie.Else1) → accepted (c .before .before .measure-refusal .result) ≡ true
+yes-accepted c = sym (c .before .is-accepted .ensures) ∙ not-false _ (c .if1 .left)
+
+returns : tie.Need-returns
+returns c = refused (c .before .before .measure-refusal .ensures) (sym (c .before .is-accepted .ensures) ∙ not-true _ (c .if1 .taken)) _
+
+body-length-requires : tie.Need-body-length-requires
+body-length-requires c κs =
+    let a = c .before .before .before .before .args in
+    let p = measure-exactly (a .lanes) (a .mode) (a .values .now) .0 (rw (c .before .before .measure-refusal .ensures) at (yes-accepted c)) in
+    (p .lanes, p .few)
+
+returns-2 : tie.Need-returns-2
+returns-2 c = answered (c .before .before .before .measure-refusal .ensures) (yes-accepted (c .before)) (c .body-length .ensures)
+
+pub measure-spec : {M : Type 1} → statement M
+measure-spec =
+    tie.close
+    (tie.spec
+    (search needs)
+    (search needs)
+    returns
+    body-length-requires
+    returns-2)

@@ -1,0 +1,47 @@
+-- Texts as bytes: words, and numbers in decimal. "Numbers are decimal, at most 4,294,967,295, without leading zeros."
+use mathlib.Core.Bool.{cond, _&&_}
+use mathlib.Core.List.{List, [], _∷_, _++_}
+use Prim.Native.Nat.{ℕ, zero, suc, _+_, _*_, _-_, _/_, _%_}
+use Prim.Native.Char.{code}
+use Prim.Native.String as S
+use lib.Dec.{leb, ltb}
+use lib.ListN.{length, drop}
+use Rattle.text.specs.declared.Numeral.{Numeral}
+
+-- the bytes of a word
+abbrev pub word : S.String → List ℕ
+word S.[] = []
+word (S._∷_ c s) = code c ∷ word s
+
+-- the last k digits of n, the highest first
+unfoldable pub digits : ℕ → ℕ → List ℕ
+digits zero n = []
+digits (suc k) n = digits k (n / 10) ++ ((48 + n % 10) ∷ [])
+
+-- how many digits n has, if these are no more than `more` + 1
+unfoldable pub places : ℕ → ℕ → ℕ
+places zero n = 1
+places (suc more) n = cond (ltb n 10) 1 (suc (places more (n / 10)))
+
+-- n in decimal, without leading zeros. (It has at most ten digits: n is below 2 to the power 32.)
+unfoldable pub decimal : ℕ → List ℕ
+decimal n = digits (places 9 n) n
+
+-- the text t where there is room for it, and else nothing
+abbrev pub fitted : List ℕ → List ℕ → List ℕ
+fitted t before = cond (leb (length t) (length before)) t []
+
+-- the digits that bs begins with, at most `most` of them
+unfoldable pub leading : ℕ → List ℕ → List ℕ
+leading zero bs = []
+leading (suc most) [] = []
+leading (suc most) (b ∷ bs) = cond (leb 48 b && leb b 57) (b ∷ leading most bs) []
+
+-- the number that some digits stand for, behind a number n
+unfoldable pub valueFrom : ℕ → List ℕ → ℕ
+valueFrom n [] = n
+valueFrom n (d ∷ ds) = valueFrom (n * 10 + (d - 48)) ds
+
+-- the number that stands at place i of bs, as far as ten digits go, and how many digits it has: 0 and none where there is none
+abbrev pub numberAt : List ℕ → ℕ → Numeral
+numberAt bs i = record { value = valueFrom 0 (leading 10 (drop i bs)); length = length (leading 10 (drop i bs)) }

@@ -61,6 +61,20 @@ unfolding fits
 fits-ext e f zero n same = refl
 fits-ext e f (suc m) n same = rw (same m (omega arith), fits-ext e f m n (λ k h. same k (omega arith)))
 
+-- whatever is measured, the width is at most 32
+least-most : (e : ℕ → ℕ) (m n more : ℕ) → leastFrom e m n more ≤ n + more
+unfolding leastFrom
+least-most e m n zero = omega arith
+least-most e m n (suc more) = go (fits e m n) (least-most e m (suc n) more)
+  where
+    go : (b : Bool) → leastFrom e m (suc n) more ≤ suc n + more → cond b n (leastFrom e m (suc n) more) ≤ n + suc more
+    go true h = omega arith
+    go false h = omega arith
+
+pub width-most : (e : ℕ → ℕ) (m : ℕ) → leastWidth e m ≤ 32
+unfolding leastWidth
+width-most e m = least-most e m 0 32
+
 -- n is the least width that e 0, .., e (m - 1) fit
 pub record Least (e : ℕ → ℕ) (m n : ℕ) : Type 0 where
   pub fit : Fit e m n

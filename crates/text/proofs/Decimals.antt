@@ -1,5 +1,6 @@
 -- Decimal digits: written the highest first, and read back.
 use mathlib.Core.Path.{_≡_, refl, sym, _∙_, ap}
+use mathlib.Core.Bool.{Bool, true, false, _&&_, cond}
 use mathlib.Core.List.{List, [], _∷_, _++_}
 use Prim.Native.Nat.{ℕ, zero, suc, _+_, _*_, _-_, _/_, _%_, _^_, _≤_, _<_}
 use native.Mathlib.Nat.{pow-suc, pow-succ', div-div-eq-div-mul, div-lt-iff-lt-mul, div-one}
@@ -7,8 +8,9 @@ use native.Mathlib.Numerals.{add-one}
 use native.Mathlib.Omega.{arith}
 use native.Mathlib.Decide.{decLt}
 use borrow.Author.Tests.{lt-ltb, le-ltb, le-leb}
+use lib.Dec.{leb}
 use lib.ListN.{length, drop, length-append}
-use Rattle.text.specs.Text.{digits, places, decimal, leading, valueFrom, numberAt}
+use Rattle.text.specs.Text.{digits, places, decimal, fitted, leading, valueFrom, numberAt}
 
 -- digits
 
@@ -100,3 +102,21 @@ unfolding decimal
 number-back bs i n rest h e =
     let l : leading 10 (drop i bs) ≡ decimal n = rw e (leading-digits (places 9 n) n 10 rest (places-few 9 n)) in
     rw l (ap (λ (v : ℕ). record { value = v; length = length (decimal n) }) (decimal-value n h))
+
+-- a number that is read has at most ten digits
+leading-few : (most : ℕ) (bs : List ℕ) → length (leading most bs) ≤ most
+unfolding leading
+leading-few zero bs = omega arith
+leading-few (suc most) [] = omega arith
+leading-few (suc most) (b ∷ bs) = go (leb 48 b && leb b 57) (leading-few most bs)
+  where
+    go : (t : Bool) → length (leading most bs) ≤ most → length (cond t (b ∷ leading most bs) []) ≤ suc most
+    go true h = omega arith
+    go false h = omega arith
+
+pub number-short : (bs : List ℕ) (i : ℕ) → numberAt bs i .length ≤ 10
+number-short bs i = leading-few 10 (drop i bs)
+
+-- a text is put where there is room for it
+pub fitted-all : (t before : List ℕ) → length t ≤ length before → fitted t before ≡ t
+fitted-all t before h = rw (le-leb (length t) (length before) h)

@@ -1,0 +1,74 @@
+-- What a file passes.
+use mathlib.Core.Path.{_≡_, refl, sym, _∙_, ap}
+use mathlib.Core.Bool.{Bool, true, false, _&&_}
+use mathlib.Core.List.{List}
+use Prim.Native.Nat.{ℕ, _-_, _≤_, _<_}
+use native.Mathlib.Omega.{arith}
+use native.Mathlib.Decide.{decLt}
+use borrow.Author.Tests.{eqb-true, eq-eqb}
+use lib.Dec.{eqb}
+use lib.ListN.{length, drop, length-drop}
+use Rattle.layout.proofs.Widths.{and-both}
+use Rattle.blocks.specs.declared.Answer.{Answer}
+use Rattle.blocks.specs.declared.refusal.Refusal.the-variants.{BadHeader}
+use Rattle.blocks.specs.Calls.{isLanes}
+use Rattle.lists.specs.Calls.{readAnswer, readOutput}
+use Rattle.blocks.proofs.Tests.{apart}
+use Rattle.files.specs.declared.heading.Header.{Header}
+use Rattle.files.specs.Header.{headerText}
+use Rattle.files.specs.kernel.Fields.{headerIn}
+use Rattle.files.specs.Opening.{begins, bodyIn, isFile, openAnswer}
+use Rattle.files.specs.Calls.{readAnswerOf, readOutputOf}
+use Rattle.files.proofs.Beginnings.{begins-short}
+
+pub begins-within : (t bs : List ℕ) → begins t bs ≡ true → length t ≤ length bs
+begins-within t bs h = go (decLt (length bs) (length t))
+  where
+    go : Dec (length bs < length t) → length t ≤ length bs
+    go (yes lt) = absurd (apart (sym h ∙ begins-short t bs lt))
+    go (no ge) = omega arith
+
+-- one test after another, for the header h that the fields give
+module _ (file : List ℕ) (h : Header) (is : h ≡ headerIn file) where
+  pub no-lanes : isLanes (h .lanes) ≡ false → false ≡ isFile file
+  unfolding isFile
+  no-lanes a = sym (rw (← is, a))
+
+  module _ (a : isLanes (h .lanes) ≡ true) where
+    pub no-text : begins (headerText h) file ≡ false → false ≡ isFile file
+    unfolding isFile
+    no-text b = sym (rw (← is, a, b))
+
+    pub last-test : begins (headerText h) file ≡ true → eqb (h .bytes) (length file - length (headerText h)) ≡ isFile file
+    unfolding isFile bodyIn
+    last-test b = sym (rw (← is, a, b, length-drop))
+
+-- all of them
+pub record Filed (file : List ℕ) : Type 0 where
+  pub lanes : isLanes (headerIn file .lanes) ≡ true
+  pub text : begins (headerText (headerIn file)) file ≡ true
+  pub bytes : headerIn file .bytes ≡ length (bodyIn file)
+
+pub filed : (file : List ℕ) → isFile file ≡ true → Filed file
+unfolding isFile
+filed file h =
+    let a = and-both (isLanes (headerIn file .lanes)) _ h in
+    let b = and-both (begins (headerText (headerIn file)) file) _ (a .1) in
+    record { lanes = a .0; text = b .0; bytes = eqb-true _ _ (b .1) }
+
+pub is-file : (file : List ℕ) → Filed file → isFile file ≡ true
+unfolding isFile
+is-file file f = rw (f .lanes, f .text, eq-eqb (headerIn file .bytes) (length (bodyIn file)) (f .bytes))
+
+-- reading a file: the two ways out
+pub bad-file : (file before : List ℕ) → isFile file ≡ false → (_≡_ {A = Answer} (record { refusal = BadHeader; length = 0 }) (readAnswerOf file (length before))) × (before ≡ readOutputOf file before)
+bad-file file before h = rw h (refl, refl)
+
+pub good-file : (file before : List ℕ) → isFile file ≡ true → {h : Header} → h ≡ headerIn file → {body : List ℕ} → body ≡ openAnswer file → {r : Answer} {after : List ℕ}
+    → r ≡ readAnswer (h .lanes) (h .mode) (h .count) body (length before) → after ≡ readOutput (h .lanes) (h .mode) (h .count) body before
+    → (r ≡ readAnswerOf file (length before)) × (after ≡ readOutputOf file before)
+good-file file before good {h} e {body} b {r} {after} a o =
+    let b′ : body ≡ bodyIn file = b ∙ rw good in
+    let a′ : r ≡ readAnswer (headerIn file .lanes) (headerIn file .mode) (headerIn file .count) (bodyIn file) (length before) = a ∙ rw (e, b′) in
+    let o′ : after ≡ readOutput (headerIn file .lanes) (headerIn file .mode) (headerIn file .count) (bodyIn file) before = o ∙ rw (e, b′) in
+    (a′ ∙ rw good, o′ ∙ rw good)

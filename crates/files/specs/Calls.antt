@@ -1,0 +1,52 @@
+-- Reading and writing a list file: which refusal is given, what is answered, and what is left in lent memory.
+use mathlib.Core.List.{List}
+use Prim.Native.Nat.{ℕ}
+use lib.Dec.{ltb}
+use lib.ListN.{length}
+use Rattle.modes.specs.declared.Mode.{Mode}
+use Rattle.blocks.specs.declared.Answer.{Answer}
+use Rattle.blocks.specs.declared.refusal.Refusal.{Refusal}
+use Rattle.blocks.specs.declared.refusal.Refusal.the-variants.{Accepted, NoRoom}
+use Rattle.blocks.specs.Refusals.{refuse}
+use Rattle.blocks.specs.Calls.{answer, written}
+use Rattle.bodies.specs.Body.{bodyOf}
+use Rattle.bodies.specs.Reading.{orElse, listOf}
+use Rattle.lists.specs.Calls.{measureRefusal, readRefusal}
+use Rattle.files.specs.declared.heading.Header.{Header}
+use Rattle.files.specs.Header.{fileOf}
+use Rattle.files.specs.kernel.Fields.{headerIn}
+use Rattle.files.specs.Opening.{bodyIn, headerRefusal}
+
+-- the list that a file holds
+abbrev pub listIn : List ℕ → List ℕ
+listIn file = listOf (headerIn file .lanes) (headerIn file .mode) (headerIn file .count) (bodyIn file)
+
+-- "Read a file: 12, then as a list", with an output of `room` values
+abbrev pub readRefusalOf : List ℕ → ℕ → Refusal
+readRefusalOf file room = orElse (headerRefusal file) (readRefusal (headerIn file .lanes) (headerIn file .mode) (headerIn file .count) (bodyIn file) room)
+
+abbrev pub readAnswerOf : List ℕ → ℕ → Answer
+readAnswerOf file room = answer (readRefusalOf file room) (headerIn file .count)
+
+abbrev pub readOutputOf : List ℕ → List ℕ → List ℕ
+readOutputOf file before = written (readRefusalOf file (length before)) (listIn file) before
+
+-- the file of the list vs
+abbrev pub headerFor : ℕ → Mode → List ℕ → Header
+headerFor L m vs = record { lanes = L; mode = m; count = length vs; bytes = length (bodyOf L m vs) }
+
+unfoldable pub fileFor : ℕ → Mode → List ℕ → List ℕ
+fileFor L m vs = fileOf (headerFor L m vs) (bodyOf L m vs)
+
+-- "Write a file: 1, 7, 8, 4, with room for header and body"
+abbrev pub writeRefusalOf : ℕ → Mode → List ℕ → ℕ → Refusal
+writeRefusalOf L m vs room =
+    orElse (measureRefusal L m vs)
+    (refuse (ltb room (length (fileFor L m vs))) NoRoom
+    Accepted)
+
+abbrev pub writeAnswerOf : ℕ → Mode → List ℕ → ℕ → Answer
+writeAnswerOf L m vs room = answer (writeRefusalOf L m vs room) (length (fileFor L m vs))
+
+abbrev pub writeOutputOf : ℕ → Mode → List ℕ → List ℕ → List ℕ
+writeOutputOf L m vs before = written (writeRefusalOf L m vs (length before)) (fileFor L m vs) before

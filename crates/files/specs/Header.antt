@@ -1,0 +1,72 @@
+-- "List file" of document 01: a header, and its text.
+use mathlib.Core.Path.{_≡_}
+use mathlib.Core.Bool.{true, cond}
+use mathlib.Core.List.{List, [], _∷_, _++_}
+use Prim.Native.Nat.{ℕ, _^_, _<_}
+use Prim.Native.String.{String}
+use lib.Dec.{eqb}
+use lib.ListN.{length}
+use Rattle.modes.specs.declared.Initial.{Initial}
+use Rattle.modes.specs.declared.Initial.the-variants.{None, Number}
+use Rattle.modes.specs.declared.Mode.{Mode}
+use Rattle.modes.specs.declared.Mode.the-variants.{Plain, Sorted, Strict}
+use Rattle.modes.specs.Entries.{firstOf}
+use Rattle.blocks.specs.Calls.{isLanes}
+use Rattle.order.specs.Order.{starting}
+use Rattle.text.specs.Text.{word, decimal}
+use Rattle.files.specs.declared.heading.Header.{Header}
+
+-- "Each line ends in byte 10": a line, with the rest of a text behind it
+abbrev pub line : String → List ℕ → List ℕ → List ℕ
+line name value rest = word name ++ (value ++ (10 ∷ rest))
+
+-- "`mode=` plain, sorted or strict"
+abbrev pub modeWord : Mode → List ℕ
+modeWord Plain = word "plain"
+modeWord (Sorted f) = word "sorted"
+modeWord (Strict i) = word "strict"
+
+-- "`first` is `none` for plain, a number for sorted, and `none` or a number up to 4,294,967,294 for strict; strict with
+-- 4,294,967,295 is written `none`."
+abbrev pub initialText : Initial → List ℕ
+initialText None = word "none"
+initialText (Number f) = cond (eqb f 4294967295) (word "none") (decimal f)
+
+abbrev pub firstText : Mode → List ℕ
+firstText Plain = word "none"
+firstText (Sorted f) = decimal f
+firstText (Strict i) = initialText i
+
+-- "Order: `lanes=` 1, 4 or 8; `mode=` ..; `first=`; ..": the three lines that say how a list is packed, with a rest behind them
+abbrev pub settings : ℕ → Mode → List ℕ → List ℕ
+settings L m rest =
+    line "lanes=" (decimal L)
+    (line "mode=" (modeWord m)
+    (line "first=" (firstText m)
+    rest))
+
+-- "Five lines, then an empty line, then the body."
+unfoldable pub fileOf : Header → List ℕ → List ℕ
+fileOf h body =
+    settings (h .lanes) (h .mode)
+    (line "count=" (decimal (h .count))
+    (line "bytes=" (decimal (h .bytes))
+    (10 ∷ body)))
+
+-- the text of a header alone
+abbrev pub headerText : Header → List ℕ
+headerText h = fileOf h []
+
+-- the headers that there are: "`lanes=` 1, 4 or 8", "numbers .. at most 4,294,967,295", and no 4,294,967,295 in strict
+pub record IsHeader (h : Header) : Type 0 where
+  pub lanes : isLanes (h .lanes) ≡ true
+  pub mode : starting (h .mode) ≡ h .mode
+  pub first : firstOf (h .mode) < 2 ^ 32
+  pub count : h .count < 2 ^ 32
+  pub bytes : h .bytes < 2 ^ 32
+
+-- file is the header h with the body behind it, and "`bytes=`, the body's length"
+pub record Heads (file : List ℕ) (h : Header) (body : List ℕ) : Type 0 where
+  pub sound : IsHeader h
+  pub whole : file ≡ fileOf h body
+  pub told : h .bytes ≡ length body

@@ -1,0 +1,4 @@
+pub mod Header
+pub mod Opening
+pub mod Calls
+pub mod kernel

@@ -1,0 +1,103 @@
+// The header of a list file, and its text: document 01's five lines and the empty line.
+use modes::Initial;
+use modes::Mode;
+use text::put;
+use text::put_decimal;
+ghost use mathlib.Core.Path.{_≡_};
+ghost use mathlib.Core.List.{[], _∷_, _++_};
+ghost use Prim.Native.Nat.{_+_, _≤_};
+ghost use lib.ListN.{length};
+ghost use Rattle.layout.specs.Layout.{over};
+ghost use Rattle.text.specs.Text.{decimal};
+ghost use Rattle.files.specs.Header.{line, modeWord, firstText, settings, headerText};
+
+// What the five lines say.
+pub struct Header {
+    pub lanes: u32,
+    pub mode: Mode,
+    pub count: u32,
+    pub bytes: u32,
+}
+
+// A line whose value is a word.
+fn put_word_line(name: &[u8], value: &[u8], out: &mut [u8]) -> usize
+    requires { ⌜ length (now name) + length (now value) + 1 ≤ length (now out) ⌝ }
+    ensures { λ r. ⌜ r ≡ length (now (name .entry) ++ (now (value .entry) ++ (10 ∷ []))) ⌝ }
+    ensures { λ r. ⌜ now (out .exit) ≡ over (now (name .entry) ++ (now (value .entry) ++ (10 ∷ []))) (now (out .entry)) ⌝ }
+{
+    let named = put(name, &mut out[..]);
+    let length = named + put(value, &mut out[named..]);
+    out[length] = 10;
+    length + 1
+}
+
+// A line whose value is a number.
+fn put_number_line(name: &[u8], x: u32, out: &mut [u8]) -> usize
+    requires { ⌜ length (now name) + 11 ≤ length (now out) ⌝ }
+    ensures { λ r. ⌜ r ≡ length (now (name .entry) ++ (decimal x ++ (10 ∷ []))) ⌝ }
+    ensures { λ r. ⌜ now (out .exit) ≡ over (now (name .entry) ++ (decimal x ++ (10 ∷ []))) (now (out .entry)) ⌝ }
+{
+    let named = put(name, &mut out[..]);
+    let length = named + put_decimal(x, &mut out[named..]);
+    out[length] = 10;
+    length + 1
+}
+
+fn put_mode_line(mode: Mode, out: &mut [u8]) -> usize
+    requires { ⌜ 12 ≤ length (now out) ⌝ }
+    ensures { λ r. ⌜ r ≡ length (line "mode=" (modeWord mode) []) ⌝ }
+    ensures { λ r. ⌜ now (out .exit) ≡ over (line "mode=" (modeWord mode) []) (now (out .entry)) ⌝ }
+{
+    match mode {
+        Mode::Plain => put_word_line(b"mode=", b"plain", out),
+        Mode::Sorted(_) => put_word_line(b"mode=", b"sorted", out),
+        Mode::Strict(_) => put_word_line(b"mode=", b"strict", out),
+    }
+}
+
+fn put_first_line(mode: Mode, out: &mut [u8]) -> usize
+    requires { ⌜ 17 ≤ length (now out) ⌝ }
+    ensures { λ r. ⌜ r ≡ length (line "first=" (firstText mode) []) ⌝ }
+    ensures { λ r. ⌜ now (out .exit) ≡ over (line "first=" (firstText mode) []) (now (out .entry)) ⌝ }
+{
+    match mode {
+        Mode::Plain => put_word_line(b"first=", b"none", out),
+        Mode::Sorted(first) => put_number_line(b"first=", first, out),
+        Mode::Strict(start) => match start {
+            Initial::None => put_word_line(b"first=", b"none", out),
+            Initial::Number(first) => if first == 4294967295 {
+                put_word_line(b"first=", b"none", out)
+            } else {
+                put_number_line(b"first=", first, out)
+            },
+        },
+    }
+}
+
+// The three lines that say how a list is packed. Answers their length.
+pub(crate) fn put_settings(lanes: u32, mode: Mode, out: &mut [u8]) -> usize
+    requires { ⌜ 46 ≤ length (now out) ⌝ }
+    ensures { λ r. ⌜ r ≡ length (settings lanes mode []) ⌝ }
+    ensures { λ r. ⌜ now (out .exit) ≡ over (settings lanes mode []) (now (out .entry)) ⌝ }
+{
+    let first = put_number_line(b"lanes=", lanes, &mut out[..]);
+    let second = first + put_mode_line(mode, &mut out[first..]);
+    second + put_first_line(mode, &mut out[second..])
+}
+
+// The text of the header, at the front of `out`. Answers its length.
+pub(crate) fn put_header(header: Header, out: &mut [u8]) -> usize
+    requires { ⌜ 81 ≤ length (now out) ⌝ }
+    ensures { λ r. ⌜ r ≡ length (headerText header) ⌝ }
+    ensures { λ r. ⌜ now (out .exit) ≡ over (headerText header) (now (out .entry)) ⌝ }
+{
+    let lanes = header.lanes;
+    let mode = header.mode;
+    let count = header.count;
+    let bytes = header.bytes;
+    let first = put_settings(lanes, mode, &mut out[..]);
+    let second = first + put_number_line(b"count=", count, &mut out[first..]);
+    let third = second + put_number_line(b"bytes=", bytes, &mut out[second..]);
+    out[third] = 10;
+    third + 1
+}

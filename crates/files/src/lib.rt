@@ -1,0 +1,152 @@
+// The list file calls of document 01. Each takes any bytes; none has a limit on their number.
+use blocks::Answer;
+use blocks::is_lanes;
+use blocks::refusal::Refusal;
+use fields::header_in;
+use heading::Header;
+use heading::put_header;
+use lists::measure;
+use modes::Mode;
+use text::put;
+ghost use mathlib.Core.Path.{_≡_};
+ghost use mathlib.Core.Bool.{true};
+ghost use lib.ListN.{length};
+ghost use Rattle.files.specs.Header.{headerText};
+ghost use Rattle.files.specs.Opening.{begins, isFile, headerAnswer, openAnswer};
+ghost use Rattle.files.specs.Calls.{readAnswerOf, readOutputOf, writeAnswerOf, writeOutputOf};
+
+mod fields;
+pub mod heading;
+
+// Whether the file begins with the text.
+fn begins(text: &[u8], file: &[u8]) -> bool
+    ensures { λ r. ⌜ r ≡ begins (now (text .entry)) (now (file .entry)) ⌝ }
+{
+    if file.len() < text.len() {
+        return false;
+    }
+    let mut i: usize = 0;
+    while i < text.len() {
+        if text[i] != file[i] {
+            return false;
+        }
+        i += 1;
+    }
+    true
+}
+
+// The length of the header's text.
+fn header_length(header: Header) -> usize
+    ensures { λ r. ⌜ r ≡ length (headerText header) ⌝ }
+{
+    let mut text = [0u8; 96];
+    put_header(header, &mut text)
+}
+
+// Whether the file is what its header writes, with as many bytes behind it as it says.
+fn is_file(file: &[u8]) -> bool
+    ensures { λ r. ⌜ r ≡ isFile (now (file .entry)) ⌝ }
+{
+    let header = header_in(file);
+    let lanes = header.lanes;
+    if !is_lanes(lanes as usize) {
+        return false;
+    }
+    let mut text = [0u8; 96];
+    let length = put_header(header, &mut text);
+    if !begins(&text[..length], file) {
+        return false;
+    }
+    let bytes = header.bytes;
+    bytes as usize == file.len() - length
+}
+
+// What the header call answers.
+pub struct Opened {
+    pub refusal: Refusal,
+    pub header: Header,
+}
+
+// The header of a file, or 12 and a header of nothing.
+pub fn header(file: &[u8]) -> Opened
+    ensures { λ r. ⌜ r ≡ headerAnswer (now (file .entry)) ⌝ }
+{
+    if !is_file(file) {
+        return Opened {
+            refusal: Refusal::BadHeader,
+            header: Header {
+                lanes: 0,
+                mode: Mode::Plain,
+                count: 0,
+                bytes: 0,
+            },
+        };
+    }
+    Opened {
+        refusal: Refusal::Accepted,
+        header: header_in(file),
+    }
+}
+
+// The body of a file, or the empty part.
+pub fn open(file: &[u8]) -> &[u8]
+    ensures { λ r. ⌜ now r ≡ openAnswer (now (file .entry)) ⌝ }
+{
+    if !is_file(file) {
+        return &file[..0];
+    }
+    let length = header_length(header_in(file));
+    &file[length..]
+}
+
+// Read a file: the list that it holds, at the front of `values`. Answers its count.
+pub fn read(file: &[u8], values: &mut [u32]) -> Answer
+    ensures { λ r. ⌜ r ≡ readAnswerOf (now (file .entry)) (length (now (values .entry))) ⌝ }
+    ensures { λ r. ⌜ now (values .exit) ≡ readOutputOf (now (file .entry)) (now (values .entry)) ⌝ }
+{
+    if !is_file(file) {
+        return Answer {
+            refusal: Refusal::BadHeader,
+            length: 0,
+        };
+    }
+    let header = header_in(file);
+    let lanes = header.lanes;
+    let mode = header.mode;
+    let count = header.count;
+    let body = open(file);
+    lists::read(lanes as usize, mode, count as usize, body, values)
+}
+
+// Write a file: the header and the body of a list, at the front of `file`. Answers the file's length.
+pub fn write(lanes: usize, mode: Mode, values: &[u32], file: &mut [u8]) -> Answer
+    ensures { λ r. ⌜ r ≡ writeAnswerOf lanes mode (now (values .entry)) (length (now (file .entry))) ⌝ }
+    ensures { λ r. ⌜ now (file .exit) ≡ writeOutputOf lanes mode (now (values .entry)) (now (file .entry)) ⌝ }
+{
+    let measured = measure(lanes, mode, values);
+    let refusal = measured.refusal;
+    if !refusal.is_accepted() {
+        return Answer { refusal, length: 0 };
+    }
+    let bytes = measured.length;
+    let mut text = [0u8; 96];
+    let header = Header {
+        lanes: lanes as u32,
+        mode,
+        count: values.len() as u32,
+        bytes: bytes as u32,
+    };
+    let length = put_header(header, &mut text);
+    if file.len() < length + bytes {
+        return Answer {
+            refusal: Refusal::NoRoom,
+            length: 0,
+        };
+    }
+    put(&text[..length], &mut file[..]);
+    lists::write(lanes, mode, values, &mut file[length..]);
+    Answer {
+        refusal,
+        length: length + bytes,
+    }
+}

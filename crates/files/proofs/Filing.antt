@@ -12,7 +12,6 @@ use Rattle.layout.proofs.Parts.{part-length}
 use Rattle.layout.proofs.Fronts.{Front, front-length, front-part, take-over}
 use Rattle.modes.specs.declared.Mode.{Mode}
 use Rattle.blocks.specs.declared.Answer.{Answer}
-use Rattle.blocks.specs.declared.refusal.Refusal.{Refusal}
 use Rattle.blocks.specs.declared.refusal.Refusal.the-variants.{Accepted, NoRoom}
 use Rattle.blocks.specs.Refusals.{accepted}
 use Rattle.blocks.proofs.Tests.{lanes-of, accepted-is}
@@ -25,7 +24,7 @@ use Rattle.text.specs.Text.{decimal, fitted}
 use Rattle.text.proofs.Decimals.{fitted-all}
 use Rattle.files.specs.declared.heading.Header.{Header}
 use Rattle.files.specs.Header.{line, settings, fileOf, headerText}
-use Rattle.files.specs.Calls.{headerFor, fileFor, writeRefusalOf, writeAnswerOf, writeOutputOf}
+use Rattle.files.specs.Calls.{headerFor, fileFor, writeAnswerOf, writeOutputOf}
 use Rattle.files.proofs.Lines.{header-are, header-short}
 
 -- a file is its header's text, and the body

@@ -2,3 +2,5 @@ pub mod Lines
 pub mod Beginnings
 pub mod Tests
 pub mod Filing
+pub mod Found
+pub mod Theorems

@@ -9,7 +9,7 @@ use lib.ListN.{length, drop}
 use Rattle.modes.specs.declared.Mode.the-variants.{Plain}
 use Rattle.blocks.specs.declared.refusal.Refusal.{Refusal}
 use Rattle.blocks.specs.declared.refusal.Refusal.the-variants.{Accepted, BadHeader}
-use Rattle.blocks.specs.Refusals.{accepted, refuse}
+use Rattle.blocks.specs.Refusals.{refuse}
 use Rattle.blocks.specs.Calls.{isLanes}
 use Rattle.files.specs.declared.heading.Header.{Header}
 use Rattle.files.specs.declared.Opened.{Opened}

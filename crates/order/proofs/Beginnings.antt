@@ -1,5 +1,5 @@
 -- Where a list starts: `starting` changes what may come first, and no entry and no value.
-use mathlib.Core.Path.{_≡_, refl, sym}
+use mathlib.Core.Path.{_≡_, refl, sym, ap}
 use mathlib.Core.Bool.{Bool, true, false, cond}
 use mathlib.Core.List.{List, [], _∷_}
 use Prim.Native.Nat.{ℕ}
@@ -44,3 +44,14 @@ pub starting-values : (m : Mode) (es : List ℕ) → valuesOf (starting m) es �
 starting-values Plain vs = refl
 starting-values (Sorted f) vs = refl
 starting-values (Strict i) vs = strict-values (startingInitial i) i vs (starting-initial i)
+
+-- `starting` is done once
+initial-twice : (b : Bool) (f : ℕ) → eqb f 4294967295 ≡ b → startingInitial (cond b None (Number f)) ≡ cond b None (Number f)
+initial-twice true f e = refl
+initial-twice false f e = rw e
+
+pub starting-twice : (m : Mode) → starting (starting m) ≡ starting m
+starting-twice Plain = refl
+starting-twice (Sorted f) = refl
+starting-twice (Strict None) = refl
+starting-twice (Strict (Number f)) = ap (λ (i : Initial). Strict i) (initial-twice (eqb f 4294967295) f refl)

@@ -10,6 +10,7 @@ use native.Mathlib.Decide.{decLt}
 use borrow.Author.Tests.{lt-ltb, le-ltb, le-leb}
 use lib.Dec.{leb}
 use lib.ListN.{length, drop, length-append}
+use Rattle.layout.specs.Layout.{at}
 use Rattle.text.specs.Text.{digits, places, decimal, fitted, leading, valueFrom, numberAt}
 
 -- digits
@@ -120,3 +121,14 @@ number-short bs i = leading-few 10 (drop i bs)
 -- a text is put where there is room for it
 pub fitted-all : (t before : List ℕ) → length t ≤ length before → fitted t before ≡ t
 fitted-all t before h = rw (le-leb (length t) (length before) h)
+
+-- a number begins with a digit, and not with a letter n
+pub decimal-head : (n : ℕ) (rest : List ℕ) → at (decimal n ++ rest) 0 ≡ 110 → ⊥
+unfolding decimal
+decimal-head n rest e = go (places 9 n) (places-some 9 n) e
+  where
+    go : (k : ℕ) → 0 < k → at (digits k n ++ rest) 0 ≡ 110 → ⊥
+    go zero pos q = omega arith
+    go (suc k) pos q =
+        let d : 48 + n / 10 ^ k % 10 ≡ 110 = sym (ap (λ (t : List ℕ). at (t ++ rest) 0) (digits-front k n)) ∙ q in
+        omega arith

@@ -1,5 +1,5 @@
 -- The header where it is one, and else nothing.
-use mathlib.Core.Path.{_≡_, sym, _∙_}
+use mathlib.Core.Path.{sym, _∙_}
 use borrow.Author.Tests.{not-true, not-false}
 use borrow.Author.Needs.{needs}
 use Rattle.files.proofs.header.Statement.{statement}

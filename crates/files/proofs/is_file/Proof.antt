@@ -1,6 +1,6 @@
 -- The lanes, the text and the bytes, in this order.
 use mathlib.Core.Path.{_≡_, sym, _∙_, ap}
-use mathlib.Core.Bool.{Bool, true, false}
+use mathlib.Core.Bool.{true}
 use mathlib.Core.List.{List}
 use Prim.Native.Nat.{ℕ, _-_}
 use lib.Dec.{eqb}
@@ -8,8 +8,7 @@ use native.Mathlib.Omega.{arith}
 use borrow.Author.Tests.{not-true, not-false}
 use lib.ListN.{length, take, replicate}
 use lib.Seq.{length-take-le}
-use Rattle.layout.specs.Layout.{over}
-use Rattle.layout.proofs.Fronts.{take-over, length-over}
+use Rattle.layout.proofs.Fronts.{take-over}
 use Rattle.blocks.specs.Calls.{isLanes}
 use Rattle.files.specs.Header.{headerText}
 use Rattle.files.specs.Opening.{begins}

@@ -1,10 +1,6 @@
 -- 12, and then as a list.
-use mathlib.Core.Path.{_≡_, refl, sym, _∙_, ap}
-use mathlib.Core.Bool.{true}
-use mathlib.Core.List.{List}
+use mathlib.Core.Path.{sym, _∙_}
 use borrow.Author.Tests.{not-true, not-false}
-use lib.ListN.{length}
-use Rattle.files.specs.Opening.{isFile}
 use Rattle.files.proofs.Tests.{bad-file, good-file}
 use borrow.Author.Needs.{needs}
 use Rattle.files.proofs.read.Statement.{statement}

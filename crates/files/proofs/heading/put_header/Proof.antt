@@ -9,7 +9,7 @@ use Rattle.layout.specs.Layout.{over}
 use Rattle.layout.proofs.Parts.{part-length}
 use Rattle.layout.proofs.Fronts.{Front, front-length, front-put}
 use Rattle.text.specs.Text.{word, decimal}
-use Rattle.files.specs.Header.{line, settings, headerText}
+use Rattle.files.specs.Header.{line, settings}
 use Rattle.files.proofs.Lines.{number-line-short, settings-short, header-are, one-length, two-length, Three, three}
 use borrow.Author.Needs.{needs}
 use Rattle.files.proofs.heading.put_header.Statement.{statement}

@@ -1,5 +1,4 @@
 -- The name, the value behind it, and byte 10.
-use mathlib.Core.Path.{_≡_}
 use Prim.Native.Nat.{_≤_}
 use native.Mathlib.Omega.{arith}
 use lib.ListN.{length}

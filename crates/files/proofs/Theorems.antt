@@ -1,0 +1,197 @@
+-- List files, there and back.
+use mathlib.Core.Path.{_≡_, refl, sym, _∙_, ap, ap₂}
+use mathlib.Core.Bool.{Bool, true, false, cond}
+use mathlib.Core.Logic.{_↔_}
+use mathlib.Core.List.{List, _++_}
+use Prim.Native.Nat.{ℕ, _+_, _^_, _≤_, _<_}
+use native.Mathlib.Nat.{mod-lt}
+use native.Mathlib.Omega.{arith}
+use lib.Dec.{eqb}
+use lib.ListN.{length, drop}
+use lib.Seq.{drop-at}
+use Rattle.layout.specs.Layout.{Below, over}
+use Rattle.layout.proofs.Below.{below-drop}
+use Rattle.modes.specs.Entries.{firstOf}
+use Rattle.modes.specs.declared.Initial.the-variants.{None, Number}
+use Rattle.modes.specs.declared.Mode.{Mode}
+use Rattle.modes.specs.declared.Mode.the-variants.{Plain, Sorted, Strict}
+use Rattle.blocks.specs.declared.refusal.Refusal.the-variants.{Accepted}
+use Rattle.blocks.specs.Refusals.{accepted}
+use Rattle.blocks.specs.Calls.{isLanes}
+use Rattle.blocks.proofs.Tests.{apart, lanes-of, accepted-is}
+use Rattle.order.specs.Order.{IsList, starting}
+use Rattle.order.proofs.Beginnings.{starting-first, starting-entries, starting-twice}
+use Rattle.bodies.specs.Body.{bodyOf}
+use Rattle.bodies.specs.Reading.{listOf}
+use Rattle.bodies.proofs.Tests.{both}
+use Rattle.bodies.proofs.Onward.{body-short}
+use Rattle.lists.specs.Calls.{readRefusal}
+use Rattle.lists.specs.Demand.{Holds}
+use Rattle.lists.proofs.Demand.{list-read, body-accepted, list-back}
+use Rattle.files.specs.declared.Opened.{Opened}
+use Rattle.files.specs.declared.heading.Header.{Header}
+use Rattle.files.specs.Header.{modeWord, firstText, fileOf, headerText, IsHeader, Heads}
+use Rattle.files.specs.kernel.Fields.{isPlain, isSorted, firstAt, isNone, fieldAt, modeIn, headerIn}
+use Rattle.files.specs.Opening.{begins, bodyIn, isFile, headerRefusal, headerAnswer, openAnswer}
+use Rattle.files.specs.Calls.{listIn, readRefusalOf, readAnswerOf, readOutputOf, headerFor, fileFor}
+use Rattle.files.proofs.Beginnings.{begins-whole, whole-begins}
+use Rattle.files.proofs.Tests.{Filed, filed, is-file}
+use Rattle.files.proofs.Filing.{file-splits}
+use Rattle.files.proofs.Found.{fields-found}
+
+-- the header of a file that is one
+
+mode-small : (file : List ℕ) → firstOf (modeIn file) < 2 ^ 32
+unfolding modeIn
+mode-small file = go (isPlain file) (isSorted file) (isNone file)
+  where
+    v : ℕ
+    v = fieldAt file (firstAt file)
+
+    small : fieldAt file (firstAt file) < 2 ^ 32
+    small = mod-lt _ (omega arith)
+
+    go : (p s n : Bool) → firstOf (cond p Plain (cond s (Sorted (fieldAt file (firstAt file))) (cond n (Strict None) (Strict (Number (fieldAt file (firstAt file))))))) < 2 ^ 32
+    go true s n = omega arith
+    go false true n = small
+    go false false true = omega arith
+    go false false false = small
+
+header-sound : (file : List ℕ) → Filed file → IsHeader (headerIn file)
+unfolding headerIn
+header-sound file f =
+    record {
+      lanes = f .lanes;
+      mode = starting-twice (modeIn file);
+      first = rw (starting-first (modeIn file)) (mode-small file);
+      count = mod-lt _ (omega arith);
+      bytes = mod-lt _ (omega arith);
+    }
+
+header-heads : (file : List ℕ) → isFile file ≡ true → Heads file (headerIn file) (bodyIn file)
+unfolding bodyIn
+header-heads file h =
+    let f = filed file h in
+    record { sound = header-sound file f; whole = begins-whole (headerText (headerIn file)) file (f .text) ∙ file-splits (headerIn file) (drop (length (headerText (headerIn file))) file); told = f .bytes }
+
+-- a file that some header writes, opened
+
+module _ {file : List ℕ} {h : Header} {body : List ℕ} (hd : Heads file h body) where
+  split : file ≡ headerText h ++ body
+  split = hd .whole ∙ sym (file-splits h body)
+
+  body-found : bodyIn file ≡ body
+  unfolding bodyIn
+  body-found = rw (fields-found file h body hd) (ap (drop (length (headerText h))) split ∙ drop-at (headerText h) body (length (headerText h)) refl)
+
+  pub heads-file : isFile file ≡ true
+  heads-file =
+      is-file file
+      record {
+        lanes = rw (fields-found file h body hd) (hd .sound .lanes);
+        text = rw (fields-found file h body hd) (ap (begins (headerText h)) split ∙ whole-begins (headerText h) body);
+        bytes = rw (fields-found file h body hd, body-found) (hd .told);
+      }
+
+  -- a header written is read back as it was, and the body with it
+  pub header-back : headerAnswer file ≡ record { refusal = Accepted; header = h }
+  header-back = rw (heads-file, fields-found file h body hd)
+
+  pub body-back : openAnswer file ≡ body
+  body-back = rw heads-file body-found
+
+-- accepted are exactly the bytes that some header writes, with `bytes` equal to the length of what follows
+pub opens-exactly : (file : List ℕ) → (accepted (headerRefusal file) ≡ true) ↔ ((h : Header) × ((body : List ℕ) × Heads file h body))
+opens-exactly file = (there (isFile file) refl, λ x. rw (heads-file (x .1 .1)))
+  where
+    there : (b : Bool) → isFile file ≡ b → accepted (headerRefusal file) ≡ true → (h : Header) × ((body : List ℕ) × Heads file h body)
+    there true e h = (headerIn file, (bodyIn file, header-heads file e))
+    there false e h = absurd (apart (sym (rw e at h)))
+
+-- a header accepted, written again, is the same bytes
+pub header-again : (file : List ℕ) → accepted (headerRefusal file) ≡ true → file ≡ fileOf (headerAnswer file .header) (openAnswer file)
+header-again file h =
+    let x = opens-exactly file .0 h in
+    x .1 .1 .whole ∙ sym (ap₂ fileOf (ap (λ (o : Opened). o .header) (header-back (x .1 .1))) (body-back (x .1 .1)))
+
+-- strict with 4,294,967,295 has the text of strict with none
+
+first-starting : (m : Mode) → firstText (starting m) ≡ firstText m
+first-starting Plain = refl
+first-starting (Sorted f) = refl
+first-starting (Strict None) = refl
+first-starting (Strict (Number f)) = go (eqb f 4294967295) refl
+  where
+    go : (b : Bool) → eqb f 4294967295 ≡ b → firstText (Strict (cond b None (Number f))) ≡ firstText (Strict (Number f))
+    go true e = rw e
+    go false e = refl
+
+mode-starting : (m : Mode) → modeWord (starting m) ≡ modeWord m
+mode-starting Plain = refl
+mode-starting (Sorted f) = refl
+mode-starting (Strict i) = refl
+
+-- the header that is read back: as it was, with none for that number
+abbrev pub readBack : Header → Header
+readBack h = record { lanes = h .lanes; mode = starting (h .mode); count = h .count; bytes = h .bytes }
+
+same-text : (h : Header) (body : List ℕ) → fileOf (readBack h) body ≡ fileOf h body
+unfolding fileOf
+same-text h body = rw (first-starting (h .mode), mode-starting (h .mode))
+
+-- a header with any mode, written, is read back so
+pub written-back : (h : Header) (body : List ℕ) → isLanes (h .lanes) ≡ true → firstOf (h .mode) < 2 ^ 32 → h .count < 2 ^ 32 → h .bytes < 2 ^ 32 → h .bytes ≡ length body → Heads (fileOf h body) (readBack h) body
+written-back h body lanes first count bytes told =
+    record {
+      sound = record { lanes = lanes; mode = starting-twice (h .mode); first = rw (starting-first (h .mode)) first; count = count; bytes = bytes };
+      whole = sym (same-text h body);
+      told = told;
+    }
+
+-- lists in files
+
+body-starting : (L : ℕ) (m : Mode) (vs : List ℕ) → bodyOf L (starting m) vs ≡ bodyOf L m vs
+unfolding bodyOf
+body-starting L m vs = rw (starting-entries m vs)
+
+-- a file accepted, written again from what was read, is the same bytes
+pub file-again : (file : List ℕ) (room : ℕ) → Below 256 file → accepted (readRefusalOf file room) ≡ true → fileFor (headerIn file .lanes) (headerIn file .mode) (listIn file) ≡ file
+unfolding fileFor bodyIn
+file-again file room bytes h =
+    let o = both (headerRefusal file) _ h in
+    let x = opens-exactly file .0 (o .0) in
+    let hd = header-heads file (heads-file (x .1 .1)) in
+    let l : Holds (headerIn file .lanes) (headerIn file .mode) (headerIn file .count) (bodyIn file) (listIn file) =
+    list-read (headerIn file .lanes) (headerIn file .mode) (hd .sound .lanes) (hd .sound .first) (headerIn file .count) room (bodyIn file) (below-drop (length (headerText (headerIn file))) file bytes) (o .1) in
+    let same : headerFor (headerIn file .lanes) (headerIn file .mode) (listIn file) ≡ headerIn file = rw (l .list .size, ← l .body, ← hd .told) in
+    rw (same, ← l .body) (sym (hd .whole))
+
+-- a file written is accepted and gives the list back
+module _ (L : ℕ) (m : Mode) (vs : List ℕ) (lanes : isLanes L ≡ true) (first : firstOf m < 2 ^ 32) (l : IsList m (length vs) vs) where
+  few : length vs ≤ 4096
+  few = l .few
+
+  heads : Heads (fileFor L m vs) (readBack (headerFor L m vs)) (bodyOf L m vs)
+  unfolding fileFor
+  heads =
+      let g = lanes-of L lanes in
+      written-back (headerFor L m vs) (bodyOf L m vs) lanes first (omega (arith, few)) (omega (arith, body-short L m vs (g .0) (g .1) few)) refl
+
+  holds : Holds L (starting m) (length vs) (bodyOf L m vs) vs
+  holds =
+      record {
+        list = record { size = l .size; few = l .few; small = l .small; order = rw (starting-twice m) (l .order) };
+        body = sym (body-starting L m vs);
+      }
+
+  small : firstOf (starting m) < 2 ^ 32
+  small = rw (starting-first m) first
+
+  pub file-read-back : (out : List ℕ) → length vs ≤ length out → (readAnswerOf (fileFor L m vs) (length out) ≡ record { refusal = Accepted; length = length vs }) × (readOutputOf (fileFor L m vs) out ≡ over vs out)
+  file-read-back out room =
+      let f = fields-found (fileFor L m vs) (readBack (headerFor L m vs)) (bodyOf L m vs) heads in
+      let b = body-found heads in
+      let a : accepted (readRefusal L (starting m) (length vs) (bodyOf L m vs) (length out)) ≡ true = body-accepted L (starting m) lanes small holds (length out) room in
+      let k : readRefusal L (starting m) (length vs) (bodyOf L m vs) (length out) ≡ Accepted = accepted-is _ a in
+      let back : listOf L (starting m) (length vs) (bodyOf L m vs) ≡ vs = list-back L (starting m) lanes small holds in
+      rw (heads-file heads, f, b, k, back) (refl, refl)

@@ -112,6 +112,9 @@ def answers(file):
         values = was_read[2]
         for word, room in (("again", BYTES), ("exact", len(file)), ("short", len(file) - 1)):
             yield f"{word}=" + answered(write_file(lanes, mode, values, room), BYTE_MARK, room)
+        yield "two=" + answered(write_file(2, mode, values, BYTES), BYTE_MARK, BYTES)
+        yield "many=" + answered(write_file(lanes, PLAIN, [VALUE_MARK] * VALUES, BYTES), BYTE_MARK, BYTES)
+        yield "last=" + answered(write_file(lanes, strict_from(LARGEST), values, BYTES), BYTE_MARK, BYTES)
 
 
 # ---- The table ----
@@ -119,7 +122,7 @@ def answers(file):
 
 def edge():
     """Case 13, and it is 56 bytes."""
-    file = bytes.fromhex("") + b"lanes=1\nmode=plain\nfirst=none\ncount=3\nbytes=9\n\n" + bytes([2, 0x39, 0, 0, 0, 0, 0, 0, 0])
+    file = b"lanes=1\nmode=plain\nfirst=none\ncount=3\nbytes=9\n\n" + bytes([2, 0x39, 0, 0, 0, 0, 0, 0, 0])
     assert len(file) == 56 and file == file_of(1, PLAIN, [1, 2, 3])
     yield "case13", file
 
@@ -171,21 +174,30 @@ def lines():
 def numbers():
     """Numbers with a leading zero or a sign, at and past 4,294,967,295, and very long ones."""
     for name, place in (("lanes", 0), ("count", 3), ("bytes", 4)):
-        for text in ("0", "00", "01", "03", "09", "+3", "-3", "3.0", "0x3", "3", "4", "8", "9", "10", "2", "16", "4294967295", "4294967296",
-                     "4294967297", "4294967299", "4294967305", "9999999999", "18446744073709551616", "18446744073709551619", "9" * 20):
+        for text in ("0", "00", "01", "03", "09", "+1", "+3", "+9", "-3", "3.0", "0x3", "3", "4", "8", "9", "10", "2", "16", "4294967295", "4294967296",
+                     "4294967297", "4294967299", "4294967305", "9999999999", "18446744073709551616", "18446744073709551617",
+                     "18446744073709551619", "18446744073709551625", "9" * 20):
             yield f"{name}-is-{text}", with_line(place, f"{name}={text}\n".encode())
-    for name, place in (("count", 3), ("bytes", 4)):
+    for name, place in (("lanes", 0), ("count", 3), ("bytes", 4)):
         yield f"{name}-is-long", with_line(place, f"{name}={'9' * 3000}\n".encode())
-        yield f"{name}-is-zeros", with_line(place, f"{name}={'0' * 3000}9\n".encode())
+        yield f"{name}-is-zeros", with_line(place, f"{name}={'0' * 300}{LINES[place][6:7].decode()}\n".encode())
     yield "count-4097", with_line(3, b"count=4097\n")
     yield "count-4097-bytes-wrong", with_line(3, b"count=4097\n").replace(b"bytes=9", b"bytes=8")
 
 
 def firsts():
     """Each `first` with each mode."""
-    for mode in ("plain", "sorted", "strict", "Plain", "sort", "strictly", ""):
-        for first in ("none", "0", "5", "05", "4294967293", "4294967294", "4294967295", "4294967296", "NONE", "non", "nonee", "-1", ""):
-            yield f"first-{mode}-{first}", f"lanes=4\nmode={mode}\nfirst={first}\ncount=0\nbytes=0\n\n".encode()
+    for mode in ("plain", "sorted", "strict", "Plain", "Sorted", "Strict", "sort", "strictly", ""):
+        for first in ("none", "0", "5", "05", "+5", " 5", "5 ", "4294967293", "4294967294", "4294967295", "4294967296", "4294967301", "9" * 20,
+                      "18446744073709551621", "None", "NONE", "non", "nonee", "-1", ""):
+            yield f"first-{mode}-{first.replace(' ', '_')}", f"lanes=4\nmode={mode}\nfirst={first}\ncount=0\nbytes=0\n\n".encode()
+
+
+def long_firsts():
+    """A first number of 3,000 digits."""
+    for mode in ("sorted", "strict"):
+        for first in ("9" * 3000, "0" * 300 + "5"):
+            yield f"first-{mode}-long-{first[0]}", f"lanes=4\nmode={mode}\nfirst={first}\ncount=0\nbytes=0\n\n".encode()
 
 
 def bodies():
@@ -203,12 +215,14 @@ def bodies():
 
 def prefixes():
     """Each prefix of the header, and an empty file."""
-    file = b"".join(LINES)
-    for end in range(len(file) + 1):
-        yield f"prefix-{end}", file[:end]
+    for name, file in (("some", b"".join(LINES)), ("none", header_text(8, sorted_from(10), 0, 0))):
+        for end in range(len(file) + 1):
+            yield f"prefix-{name}-{end}", file[:end]
+    yield "blank-empty", with_line(5, b" \n")
+    yield "crlf-all", b"".join(LINES).replace(b"\n", b"\r\n") + BODY
 
 
-TABLE = (edge, sound, lines, numbers, firsts, bodies, prefixes)
+TABLE = (edge, sound, lines, numbers, firsts, long_firsts, bodies, prefixes)
 
 
 def main():

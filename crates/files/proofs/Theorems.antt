@@ -6,6 +6,7 @@ use mathlib.Core.List.{List, _++_}
 use Prim.Native.Nat.{ℕ, _+_, _^_, _≤_, _<_}
 use native.Mathlib.Nat.{mod-lt}
 use native.Mathlib.Omega.{arith}
+use borrow.Author.Tests.{le-ltb}
 use lib.Dec.{eqb}
 use lib.ListN.{length, drop}
 use lib.Seq.{drop-at}
@@ -25,15 +26,16 @@ use Rattle.bodies.specs.Body.{bodyOf}
 use Rattle.bodies.specs.Reading.{listOf}
 use Rattle.bodies.proofs.Tests.{both}
 use Rattle.bodies.proofs.Onward.{body-short}
-use Rattle.lists.specs.Calls.{readRefusal}
+use Rattle.lists.specs.Calls.{measureRefusal, readRefusal}
+use Rattle.lists.proofs.Accepts.{measure-exactly}
 use Rattle.lists.specs.Demand.{Holds}
 use Rattle.lists.proofs.Demand.{list-read, body-accepted, list-back}
 use Rattle.files.specs.declared.Opened.{Opened}
 use Rattle.files.specs.declared.heading.Header.{Header}
-use Rattle.files.specs.Header.{modeWord, firstText, fileOf, headerText, IsHeader, Heads}
+use Rattle.files.specs.Header.{modeWord, firstText, fileOf, readBack, headerText, IsHeader, Heads}
 use Rattle.files.specs.kernel.Fields.{isPlain, isSorted, firstAt, isNone, fieldAt, modeIn, headerIn}
 use Rattle.files.specs.Opening.{begins, bodyIn, isFile, headerRefusal, headerAnswer, openAnswer}
-use Rattle.files.specs.Calls.{listIn, readRefusalOf, readAnswerOf, readOutputOf, headerFor, fileFor}
+use Rattle.files.specs.Calls.{listIn, readRefusalOf, readAnswerOf, readOutputOf, headerFor, fileFor, writeAnswerOf, writeOutputOf}
 use Rattle.files.proofs.Beginnings.{begins-whole, whole-begins}
 use Rattle.files.proofs.Tests.{Filed, filed, is-file}
 use Rattle.files.proofs.Filing.{file-splits}
@@ -131,10 +133,6 @@ mode-starting Plain = refl
 mode-starting (Sorted f) = refl
 mode-starting (Strict i) = refl
 
--- the header that is read back: as it was, with none for that number
-abbrev pub readBack : Header → Header
-readBack h = record { lanes = h .lanes; mode = starting (h .mode); count = h .count; bytes = h .bytes }
-
 same-text : (h : Header) (body : List ℕ) → fileOf (readBack h) body ≡ fileOf h body
 unfolding fileOf
 same-text h body = rw (first-starting (h .mode), mode-starting (h .mode))
@@ -154,17 +152,35 @@ body-starting : (L : ℕ) (m : Mode) (vs : List ℕ) → bodyOf L (starting m) v
 unfolding bodyOf
 body-starting L m vs = rw (starting-entries m vs)
 
+-- given a list and room, writing is accepted, and leaves exactly the list's file
+pub file-written : (L : ℕ) (m : Mode) (vs before : List ℕ) → isLanes L ≡ true → IsList m (length vs) vs → length (fileFor L m vs) ≤ length before
+    → (writeAnswerOf L m vs (length before) ≡ record { refusal = Accepted; length = length (fileFor L m vs) }) × (writeOutputOf L m vs before ≡ over (fileFor L m vs) before)
+file-written L m vs before lanes l room =
+    let k : measureRefusal L m vs ≡ Accepted = accepted-is _ (measure-exactly L m vs .1 (record { lanes = lanes; few = l .few; order = l .order })) in
+    rw (k, le-ltb (length before) (length (fileFor L m vs)) room) (refl, refl)
+
 -- a file accepted, written again from what was read, is the same bytes
-pub file-again : (file : List ℕ) (room : ℕ) → Below 256 file → accepted (readRefusalOf file room) ≡ true → fileFor (headerIn file .lanes) (headerIn file .mode) (listIn file) ≡ file
-unfolding fileFor bodyIn
-file-again file room bytes h =
-    let o = both (headerRefusal file) _ h in
-    let x = opens-exactly file .0 (o .0) in
-    let hd = header-heads file (heads-file (x .1 .1)) in
-    let l : Holds (headerIn file .lanes) (headerIn file .mode) (headerIn file .count) (bodyIn file) (listIn file) =
-    list-read (headerIn file .lanes) (headerIn file .mode) (hd .sound .lanes) (hd .sound .first) (headerIn file .count) room (bodyIn file) (below-drop (length (headerText (headerIn file))) file bytes) (o .1) in
-    let same : headerFor (headerIn file .lanes) (headerIn file .mode) (listIn file) ≡ headerIn file = rw (l .list .size, ← l .body, ← hd .told) in
-    rw (same, ← l .body) (sym (hd .whole))
+module _ (file : List ℕ) (room : ℕ) (bytes : Below 256 file) (h : accepted (readRefusalOf file room) ≡ true) where
+  opened : Heads file (headerIn file) (bodyIn file)
+  opened = header-heads file (heads-file (opens-exactly file .0 (both (headerRefusal file) _ h .0) .1 .1))
+
+  held : Holds (headerIn file .lanes) (headerIn file .mode) (headerIn file .count) (bodyIn file) (listIn file)
+  unfolding bodyIn
+  held =
+      list-read (headerIn file .lanes) (headerIn file .mode) (opened .sound .lanes) (opened .sound .first) (headerIn file .count) room (bodyIn file) (below-drop (length (headerText (headerIn file))) file bytes) (both (headerRefusal file) _ h .1)
+
+  pub same-file : fileFor (headerIn file .lanes) (headerIn file .mode) (listIn file) ≡ file
+  unfolding fileFor
+  same-file =
+      let same : headerFor (headerIn file .lanes) (headerIn file .mode) (listIn file) ≡ headerIn file = rw (held .list .size, ← held .body, ← opened .told) in
+      rw (same, ← held .body) (sym (opened .whole))
+
+  pub file-again : (before : List ℕ) → length file ≤ length before
+      → writeOutputOf (headerAnswer file .header .lanes) (headerAnswer file .header .mode) (listIn file) before ≡ over file before
+  file-again before enough =
+      let e : headerAnswer file .header ≡ headerIn file = rw (heads-file opened) in
+      let l : IsList (headerIn file .mode) (length (listIn file)) (listIn file) = rw (held .list .size) (held .list) in
+      rw e (file-written (headerIn file .lanes) (headerIn file .mode) (listIn file) before (opened .sound .lanes) l (rw same-file enough) .1 ∙ ap (λ (t : List ℕ). over t before) same-file)
 
 -- a file written is accepted and gives the list back
 module _ (L : ℕ) (m : Mode) (vs : List ℕ) (lanes : isLanes L ≡ true) (first : firstOf m < 2 ^ 32) (l : IsList m (length vs) vs) where
@@ -176,6 +192,10 @@ module _ (L : ℕ) (m : Mode) (vs : List ℕ) (lanes : isLanes L ≡ true) (firs
   heads =
       let g = lanes-of L lanes in
       written-back (headerFor L m vs) (bodyOf L m vs) lanes first (omega (arith, few)) (omega (arith, body-short L m vs (g .0) (g .1) few)) refl
+
+  -- its header comes back as it was, and none for strict's 4,294,967,295
+  pub file-header-back : headerAnswer (fileFor L m vs) ≡ record { refusal = Accepted; header = readBack (headerFor L m vs) }
+  file-header-back = header-back heads
 
   holds : Holds L (starting m) (length vs) (bodyOf L m vs) vs
   holds =
@@ -195,3 +215,6 @@ module _ (L : ℕ) (m : Mode) (vs : List ℕ) (lanes : isLanes L ≡ true) (firs
       let k : readRefusal L (starting m) (length vs) (bodyOf L m vs) (length out) ≡ Accepted = accepted-is _ a in
       let back : listOf L (starting m) (length vs) (bodyOf L m vs) ≡ vs = list-back L (starting m) lanes small holds in
       rw (heads-file heads, f, b, k, back) (refl, refl)
+
+pub last-is-none : starting (Strict (Number 4294967295)) ≡ Strict None
+last-is-none = refl

@@ -53,6 +53,10 @@ fileOf h body =
     (line "bytes=" (decimal (h .bytes))
     (10 ∷ body)))
 
+-- the header that is read back from its text: as it was, with none for strict's 4,294,967,295
+abbrev pub readBack : Header → Header
+readBack h = record { lanes = h .lanes; mode = starting (h .mode); count = h .count; bytes = h .bytes }
+
 -- the text of a header alone
 abbrev pub headerText : Header → List ℕ
 headerText h = fileOf h []

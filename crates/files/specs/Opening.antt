@@ -1,5 +1,5 @@
 -- Opening a list file. A file is one that some header writes, with `bytes` equal to the length of what follows: the header that its
--- fields give is written, and must be what the file begins with. That this accepts exactly those files is a theorem (proofs/Opened,
+-- fields give is written, and must be what the file begins with. That this accepts exactly those files is a theorem (proofs/Theorems,
 -- opens-exactly).
 use mathlib.Core.Bool.{Bool, true, false, not, _&&_, cond}
 use mathlib.Core.List.{List, [], _∷_}

@@ -1,4 +1,4 @@
-// The list file calls of document 01. Each takes any bytes; none has a limit on their number.
+// The list file calls of document 01. Each takes any input; none limits the size of a file.
 use blocks::Answer;
 use blocks::is_lanes;
 use blocks::refusal::Refusal;

@@ -98,6 +98,21 @@ fn run_again(file: &[u8], values: &[u32]) {
     if 0 < file.len() {
         write_word(b" short=", lanes as usize, mode, values, file.len() - 1);
     }
+    run_others(lanes as usize, mode, values);
+}
+
+// With 2 lanes; with more values than a list has; and in strict mode from 4,294,967,295.
+fn run_others(lanes: usize, mode: Mode, values: &[u32]) {
+    let many = marked_values();
+    write_word(b" two=", 2, mode, values, 20000);
+    write_word(b" many=", lanes, Mode::Plain, &many, 20000);
+    write_word(
+        b" last=",
+        lanes,
+        Mode::Strict(Initial::Number(4294967295)),
+        values,
+        20000,
+    );
 }
 
 fn read_into(word: &[u8], file: &[u8], output: &mut [u32]) -> usize {

@@ -3,12 +3,12 @@ use mathlib.Core.Path.{_≡_, refl, sym, _∙_, ap}
 use mathlib.Core.Bool.{Bool, true, false}
 use mathlib.Core.List.{List}
 use Prim.Native.Nat.{ℕ, _+_, _-_, _≤_, _<_, min}
-use native.Mathlib.Nat.{add-zero, lt-of-lt-of-le}
+use native.Mathlib.Nat.{lt-of-lt-of-le}
 use native.Mathlib.Omega.{arith}
 use borrow.Author.Tests.{lt-ltb, le-ltb}
 use lib.ListN.{length, take, drop, length-drop}
 use lib.Pow.{pow-mono}
-use lib.Seq.{drop-drop, getD-drop, take-take}
+use lib.Seq.{take-take}
 use borrow.Rule.Slice.PartMut.{midOf}
 use Rattle.layout.specs.Layout.{at, blockSize, payloadSize, table}
 use Rattle.layout.specs.Width.{fits, leastWidth}
@@ -24,6 +24,7 @@ use Rattle.order.specs.Order.{afterAll, ordered, valuesOf, course}
 use Rattle.bodies.specs.Reading.{orElse, widthAt, sizeAt, entryAt, entriesAt, valuesAt, frameRefusal, entriesRefusal, shapeRefusal, blockRefusal, refusalFrom, bodyRefusal}
 use Rattle.bodies.proofs.Tests.{first-stops, first-passes, Framed, framed, block-passed}
 use Rattle.bodies.proofs.Onward.{blocks-none, refusal-next}
+use Rattle.lists.proofs.Standing.{byte-there, byte-narrow, end-within, rest-there}
 use Rattle.lists.specs.declared.check.Checked.{Checked}
 use Rattle.lists.specs.kernel.Steps.{checked}
 use Rattle.layout.proofs.Parts.{part-is, part-at, part-length}
@@ -135,26 +136,20 @@ module _ {L : ℕ} {m₀ : Mode} {count : ℕ} {body : List ℕ} {m : Mode} {pla
       block-there = block-passed L m k (drop place body) good .frame
 
       pub width-there : place < length body
-      width-there = omega (arith, block-there .some, length-drop place body)
-
-      width-at : at body place ≡ widthAt (drop place body)
-      width-at = sym (getD-drop place body 0 0 ∙ ap (at body) (add-zero place))
+      width-there = byte-there L body place (t .within) block-there
 
       pub width-narrow : (w : ℕ) → w ≡ at body place → w ≤ 32
-      width-narrow w e = rw (e, width-at) (block-there .narrow)
+      width-narrow = byte-narrow L body place (t .within) block-there
 
       module _ (w size : ℕ) (e : w ≡ at body place) (sized : size ≡ 1 + payloadSize L w) where
-        size-there : size ≡ sizeAt L (drop place body)
-        size-there = sized ∙ rw (e, width-at)
-
         pub block-within : place + size ≤ length body
-        block-within = omega (arith, block-there .whole, size-there, length-drop place body, t .within)
+        block-within = end-within L body place (t .within) block-there w size e sized
 
         pub testing-more : Testing L m₀ count body (r .mode) (place + size) (left - k)
         testing-more =
             let next : r .mode ≡ afterAll m (valuesAt L m k (drop place body)) = ap (λ (c : Checked). c .mode) here ∙ rw good in
             let less : left - blockSize L ≡ left - k = omega arith in
-            let move : drop (sizeAt L (drop place body)) (drop place body) ≡ drop (place + size) body = rw (← size-there) (drop-drop size place body) in
+            let move = rest-there L body place (t .within) block-there w size e sized in
             record {
               within = block-within;
               fewer = omega (arith, t .fewer);

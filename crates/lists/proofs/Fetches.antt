@@ -3,10 +3,10 @@ use mathlib.Core.Path.{_≡_, refl, sym, _∙_, ap}
 use mathlib.Core.Bool.{true}
 use mathlib.Core.List.{List, [], _++_, append-assoc, append-nil}
 use Prim.Native.Nat.{ℕ, zero, suc, _+_, _-_, _≤_, _<_, min}
-use native.Mathlib.Nat.{sub-zero, add-zero, min-eq-left, min-eq-right}
+use native.Mathlib.Nat.{sub-zero, min-eq-left, min-eq-right}
 use native.Mathlib.Omega.{arith}
-use lib.ListN.{length, take, drop, length-append, length-drop, List·getD-append}
-use lib.Seq.{drop-drop, getD-drop, take-take}
+use lib.ListN.{length, take, drop, length-append, List·getD-append}
+use lib.Seq.{take-take}
 use borrow.Rule.Slice.PartMut.{midOf, putMid}
 use Rattle.layout.specs.Layout.{at, blockSize, payloadSize, over}
 use Rattle.layout.proofs.Tables.{length-table, take-table}
@@ -21,6 +21,7 @@ use Rattle.bodies.specs.Body.{blockCount}
 use Rattle.bodies.specs.Reading.{widthAt, sizeAt, entryAt, entriesAt, valuesAt, frameRefusal, entriesRefusal, shapeRefusal, blockRefusal, refusalFrom, listOf}
 use Rattle.bodies.proofs.Tests.{both, Framed, framed}
 use Rattle.bodies.proofs.Onward.{blocks-next, list-none, list-next}
+use Rattle.lists.proofs.Standing.{byte-there, byte-narrow, end-within, rest-there}
 use Rattle.lists.specs.kernel.Steps.{framesFrom}
 use Rattle.layout.proofs.Fronts.{Front, front-none, front-length, front-part, take-over}
 use Rattle.layout.proofs.Parts.{part-is}
@@ -98,20 +99,14 @@ module _ {L : ℕ} {m₀ : Mode} {count : ℕ} {body before : List ℕ} {m : Mod
     next-whole = framed L (drop place body) (next .0)
 
     pub width-there : place < length body
-    width-there = omega (arith, next-whole .some, length-drop place body)
-
-    width-at : at body place ≡ widthAt (drop place body)
-    width-at = sym (getD-drop place body 0 0 ∙ ap (at body) (add-zero place))
+    width-there = byte-there L body place (f .within) next-whole
 
     pub next-narrow : (w : ℕ) → w ≡ at body place → w ≤ 32
-    next-narrow w e = rw (e, width-at) (next-whole .narrow)
+    next-narrow = byte-narrow L body place (f .within) next-whole
 
     module _ (w size : ℕ) (is : w ≡ at body place) (sized : size ≡ 1 + payloadSize L w) where
-      size-there : size ≡ sizeAt L (drop place body)
-      size-there = sized ∙ rw (is, width-at)
-
       pub next-within : place + size ≤ length body
-      next-within = omega (arith, next-whole .whole, size-there, length-drop place body, f .within)
+      next-within = end-within L body place (f .within) next-whole w size is sized
 
       -- a full block
       pub fetching-more : blockSize L ≤ count - done → (ys : List ℕ) (to : Mode)
@@ -127,7 +122,7 @@ module _ {L : ℕ} {m₀ : Mode} {count : ℕ} {body before : List ℕ} {m : Mod
           let less : left - blockSize L ≡ count - (done + blockSize L) = omega arith in
           let came′ : ys ≡ over vs (midOf done (length out - done) out) = came ∙ rw (part-is place body) in
           let moved′ : to ≡ afterAll m vs = moved ∙ rw (part-is place body) in
-          let move : drop (sizeAt L bs) bs ≡ drop (place + size) body = rw (← size-there) (drop-drop size place body) in
+          let move = rest-there L body place (f .within) next-whole w size is sized in
           record {
             fewer = omega (arith, f .fewer);
             within = next-within;

@@ -1,3 +1,4 @@
+pub mod Standing
 pub mod BlockCalls
 pub mod Checks
 pub mod Fetches

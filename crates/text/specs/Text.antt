@@ -23,7 +23,7 @@ unfoldable pub places : ℕ → ℕ → ℕ
 places zero n = 1
 places (suc more) n = cond (ltb n 10) 1 (suc (places more (n / 10)))
 
--- n in decimal, without leading zeros. (It has at most ten digits: n is below 2 to the power 32.)
+-- n in decimal, without leading zeros, for an n of at most ten digits
 unfoldable pub decimal : ℕ → List ℕ
 decimal n = digits (places 9 n) n
 

@@ -1,5 +1,6 @@
 -- Where the fields of a header stand, if a file begins with one, and what they say. Nobody need believe this: the text of the header
--- that is found so is held against the file's own bytes (Opening, isFile).
+-- that is found so is held against the file's own bytes (Opening, isFile), and what some header writes is found so (proofs/Theorems,
+-- opens-exactly).
 use mathlib.Core.Bool.{Bool, cond}
 use mathlib.Core.List.{List}
 use Prim.Native.Nat.{ℕ, _+_, _%_, _^_}

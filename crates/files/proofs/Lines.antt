@@ -1,23 +1,22 @@
 -- Lines written at the front of an output.
 use mathlib.Core.Path.{_≡_, sym, _∙_, ap}
-use mathlib.Core.Bool.{Bool, true, false, cond}
 use mathlib.Core.List.{List, [], _∷_, _++_, append-assoc}
 use Prim.Native.String.{String}
 use Prim.Native.Nat.{ℕ, _+_, _-_, _≤_, _<_}
 use native.Mathlib.Omega.{arith}
-use lib.Dec.{eqb}
 use lib.ListN.{length, set, length-append}
 use borrow.Rule.Slice.PartMut.{midOf, putMid}
 use Rattle.layout.specs.Layout.{over}
 use Rattle.layout.proofs.Parts.{part-length}
 use Rattle.layout.proofs.Fronts.{Front, front-length, front-put, front-part}
+use Rattle.modes.specs.declared.Initial.{Initial}
 use Rattle.modes.specs.declared.Initial.the-variants.{None, Number}
 use Rattle.modes.specs.declared.Mode.{Mode}
 use Rattle.modes.specs.declared.Mode.the-variants.{Plain, Sorted, Strict}
 use Rattle.text.specs.Text.{word, decimal, fitted}
 use Rattle.text.proofs.Decimals.{fitted-all, decimal-short}
 use Rattle.files.specs.declared.heading.Header.{Header}
-use Rattle.files.specs.Header.{line, modeWord, firstText, settings, fileOf}
+use Rattle.files.specs.Header.{line, modeWord, firstField, initialText, firstText, settings, fileOf}
 
 -- a name, a value behind it, and byte 10: `out` with the name is out₁, and ys came back as its part behind the name
 pub record Lined (name value out out₁ : List ℕ) (a b : ℕ) (ys : List ℕ) : Type 0 where
@@ -80,18 +79,12 @@ mode-line-short Plain = omega arith
 mode-line-short (Sorted f) = omega arith
 mode-line-short (Strict i) = omega arith
 
-first-number-short : (x : ℕ) → length (line "first=" (decimal x) []) ≤ 17
-first-number-short x = number-line-short (word "first=") x
-
-initial-short : (b : Bool) (f : ℕ) → length (line "first=" (cond b (word "none") (decimal f)) []) ≤ 17
-initial-short true f = omega arith
-initial-short false f = first-number-short f
+initial-short : (i : Initial) → length (line "first=" (initialText i) []) ≤ 17
+initial-short None = omega arith
+initial-short (Number f) = number-line-short (word "first=") f
 
 pub first-line-short : (m : Mode) → length (line "first=" (firstText m) []) ≤ 17
-first-line-short Plain = omega arith
-first-line-short (Sorted f) = first-number-short f
-first-line-short (Strict None) = omega arith
-first-line-short (Strict (Number f)) = initial-short (eqb f 4294967295) f
+first-line-short m = initial-short (firstField m)
 
 -- a line with a rest behind it is the line, and the rest
 pub line-rest : (name : String) (value rest : List ℕ) → line name value [] ++ rest ≡ line name value rest

@@ -7,7 +7,6 @@ use Prim.Native.Nat.{ℕ, _+_, _^_, _≤_, _<_}
 use native.Mathlib.Nat.{mod-lt}
 use native.Mathlib.Omega.{arith}
 use borrow.Author.Tests.{le-ltb}
-use lib.Dec.{eqb}
 use lib.ListN.{length, drop}
 use lib.Seq.{drop-at}
 use Rattle.layout.specs.Layout.{Below, over}
@@ -21,7 +20,7 @@ use Rattle.blocks.specs.Refusals.{accepted}
 use Rattle.blocks.specs.Calls.{isLanes}
 use Rattle.blocks.proofs.Tests.{apart, lanes-of, accepted-is}
 use Rattle.order.specs.Order.{IsList, starting}
-use Rattle.order.proofs.Beginnings.{starting-first, starting-entries, starting-twice}
+use Rattle.order.proofs.Beginnings.{starting-first, starting-entries, initial-twice, starting-twice}
 use Rattle.bodies.specs.Body.{bodyOf}
 use Rattle.bodies.specs.Reading.{listOf}
 use Rattle.bodies.proofs.Tests.{both}
@@ -32,7 +31,7 @@ use Rattle.lists.specs.Demand.{Holds}
 use Rattle.lists.proofs.Demand.{list-read, body-accepted, list-back}
 use Rattle.files.specs.declared.Opened.{Opened}
 use Rattle.files.specs.declared.heading.Header.{Header}
-use Rattle.files.specs.Header.{modeWord, firstText, fileOf, readBack, headerText, IsHeader, Heads}
+use Rattle.files.specs.Header.{modeWord, initialText, firstText, fileOf, readBack, headerText, IsHeader, Heads}
 use Rattle.files.specs.kernel.Fields.{isPlain, isSorted, firstAt, isNone, fieldAt, modeIn, headerIn}
 use Rattle.files.specs.Opening.{begins, bodyIn, isFile, headerRefusal, headerAnswer, openAnswer}
 use Rattle.files.specs.Calls.{listIn, readRefusalOf, readAnswerOf, readOutputOf, headerFor, fileFor, writeAnswerOf, writeOutputOf}
@@ -121,12 +120,7 @@ header-again file h =
 first-starting : (m : Mode) → firstText (starting m) ≡ firstText m
 first-starting Plain = refl
 first-starting (Sorted f) = refl
-first-starting (Strict None) = refl
-first-starting (Strict (Number f)) = go (eqb f 4294967295) refl
-  where
-    go : (b : Bool) → eqb f 4294967295 ≡ b → firstText (Strict (cond b None (Number f))) ≡ firstText (Strict (Number f))
-    go true e = rw e
-    go false e = refl
+first-starting (Strict i) = ap initialText (initial-twice i)
 
 mode-starting : (m : Mode) → modeWord (starting m) ≡ modeWord m
 mode-starting Plain = refl

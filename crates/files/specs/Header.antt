@@ -1,10 +1,9 @@
 -- "List file" of document 01: a header, and its text.
 use mathlib.Core.Path.{_≡_}
-use mathlib.Core.Bool.{true, cond}
+use mathlib.Core.Bool.{true}
 use mathlib.Core.List.{List, [], _∷_, _++_}
 use Prim.Native.Nat.{ℕ, _^_, _<_}
 use Prim.Native.String.{String}
-use lib.Dec.{eqb}
 use lib.ListN.{length}
 use Rattle.modes.specs.declared.Initial.{Initial}
 use Rattle.modes.specs.declared.Initial.the-variants.{None, Number}
@@ -12,7 +11,7 @@ use Rattle.modes.specs.declared.Mode.{Mode}
 use Rattle.modes.specs.declared.Mode.the-variants.{Plain, Sorted, Strict}
 use Rattle.modes.specs.Entries.{firstOf}
 use Rattle.blocks.specs.Calls.{isLanes}
-use Rattle.order.specs.Order.{starting}
+use Rattle.order.specs.Order.{startingInitial, starting}
 use Rattle.text.specs.Text.{word, decimal}
 use Rattle.files.specs.declared.heading.Header.{Header}
 
@@ -28,14 +27,17 @@ modeWord (Strict i) = word "strict"
 
 -- "`first` is `none` for plain, a number for sorted, and `none` or a number up to 4,294,967,294 for strict; strict with
 -- 4,294,967,295 is written `none`."
+abbrev pub firstField : Mode → Initial
+firstField Plain = None
+firstField (Sorted f) = Number f
+firstField (Strict i) = startingInitial i
+
 abbrev pub initialText : Initial → List ℕ
 initialText None = word "none"
-initialText (Number f) = cond (eqb f 4294967295) (word "none") (decimal f)
+initialText (Number f) = decimal f
 
 abbrev pub firstText : Mode → List ℕ
-firstText Plain = word "none"
-firstText (Sorted f) = decimal f
-firstText (Strict i) = initialText i
+firstText m = initialText (firstField m)
 
 -- "Order: `lanes=` 1, 4 or 8; `mode=` ..; `first=`; ..": the three lines that say how a list is packed, with a rest behind them
 abbrev pub settings : ℕ → Mode → List ℕ → List ℕ

@@ -1,6 +1,7 @@
 // The header of a list file, and its text: document 01's five lines and the empty line.
 use modes::Initial;
 use modes::Mode;
+use order::starting_initial;
 use text::put;
 use text::put_decimal;
 ghost use mathlib.Core.Path.{_≡_};
@@ -9,7 +10,7 @@ ghost use Prim.Native.Nat.{_+_, _≤_};
 ghost use lib.ListN.{length};
 ghost use Rattle.layout.specs.Layout.{over};
 ghost use Rattle.text.specs.Text.{decimal};
-ghost use Rattle.files.specs.Header.{line, modeWord, firstText, settings, headerText};
+ghost use Rattle.files.specs.Header.{line, modeWord, firstField, firstText, settings, headerText};
 
 // What the five lines say.
 pub struct Header {
@@ -37,10 +38,9 @@ fn put_number_line(name: &[u8], x: u32, out: &mut [u8]) -> usize
     ensures { λ r. ⌜ r ≡ length (now (name .entry) ++ (decimal x ++ (10 ∷ []))) ⌝ }
     ensures { λ r. ⌜ now (out .exit) ≡ over (now (name .entry) ++ (decimal x ++ (10 ∷ []))) (now (out .entry)) ⌝ }
 {
-    let named = put(name, &mut out[..]);
-    let length = named + put_decimal(x, &mut out[named..]);
-    out[length] = 10;
-    length + 1
+    let mut digits = [0u8; 10];
+    let length = put_decimal(x, &mut digits);
+    put_word_line(name, &digits[..length], out)
 }
 
 fn put_mode_line(mode: Mode, out: &mut [u8]) -> usize
@@ -55,22 +55,26 @@ fn put_mode_line(mode: Mode, out: &mut [u8]) -> usize
     }
 }
 
+// What `first` says.
+fn first_field(mode: Mode) -> Initial
+    ensures { λ r. ⌜ r ≡ firstField mode ⌝ }
+{
+    match mode {
+        Mode::Plain => Initial::None,
+        Mode::Sorted(first) => Initial::Number(first),
+        Mode::Strict(start) => starting_initial(start),
+    }
+}
+
 fn put_first_line(mode: Mode, out: &mut [u8]) -> usize
     requires { ⌜ 17 ≤ length (now out) ⌝ }
     ensures { λ r. ⌜ r ≡ length (line "first=" (firstText mode) []) ⌝ }
     ensures { λ r. ⌜ now (out .exit) ≡ over (line "first=" (firstText mode) []) (now (out .entry)) ⌝ }
 {
-    match mode {
-        Mode::Plain => put_word_line(b"first=", b"none", out),
-        Mode::Sorted(first) => put_number_line(b"first=", first, out),
-        Mode::Strict(start) => match start {
-            Initial::None => put_word_line(b"first=", b"none", out),
-            Initial::Number(first) => if first == 4294967295 {
-                put_word_line(b"first=", b"none", out)
-            } else {
-                put_number_line(b"first=", first, out)
-            },
-        },
+    let start = first_field(mode);
+    match start {
+        Initial::None => put_word_line(b"first=", b"none", out),
+        Initial::Number(first) => put_number_line(b"first=", first, out),
     }
 }
 

@@ -5,6 +5,7 @@ use blocks::refusal::Refusal;
 use check::body_refusal;
 use fetch::fetch_body;
 use modes::Mode;
+use order::MOST;
 use order::in_order;
 use order::starting;
 use store::body_length;
@@ -24,7 +25,7 @@ fn measure_refusal(lanes: usize, mode: Mode, values: &[u32]) -> Refusal
     if !is_lanes(lanes) {
         return Refusal::BadLanes;
     }
-    if 4096 < values.len() {
+    if MOST < values.len() {
         return Refusal::TooMany;
     }
     if !in_order(starting(mode), values) {
@@ -79,7 +80,7 @@ fn read_refusal(lanes: usize, mode: Mode, count: usize, body: &[u8], room: usize
     if !is_lanes(lanes) {
         return Refusal::BadLanes;
     }
-    if 4096 < count {
+    if MOST < count {
         return Refusal::TooMany;
     }
     if room < count {

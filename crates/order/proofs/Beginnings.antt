@@ -46,12 +46,15 @@ starting-values (Sorted f) vs = refl
 starting-values (Strict i) vs = strict-values (startingInitial i) i vs (starting-initial i)
 
 -- `starting` is done once
-initial-twice : (b : Bool) (f : ℕ) → eqb f 4294967295 ≡ b → startingInitial (cond b None (Number f)) ≡ cond b None (Number f)
-initial-twice true f e = refl
-initial-twice false f e = rw e
+number-twice : (b : Bool) (f : ℕ) → eqb f 4294967295 ≡ b → startingInitial (cond b None (Number f)) ≡ cond b None (Number f)
+number-twice true f e = refl
+number-twice false f e = rw e
+
+pub initial-twice : (i : Initial) → startingInitial (startingInitial i) ≡ startingInitial i
+initial-twice None = refl
+initial-twice (Number f) = number-twice (eqb f 4294967295) f refl
 
 pub starting-twice : (m : Mode) → starting (starting m) ≡ starting m
 starting-twice Plain = refl
 starting-twice (Sorted f) = refl
-starting-twice (Strict None) = refl
-starting-twice (Strict (Number f)) = ap (λ (i : Initial). Strict i) (initial-twice (eqb f 4294967295) f refl)
+starting-twice (Strict i) = ap (λ (j : Initial). Strict j) (initial-twice i)

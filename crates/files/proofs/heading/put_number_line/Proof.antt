@@ -1,64 +1,53 @@
--- The name, the number behind it, and byte 10.
-use Prim.Native.Nat.{_+_, _≤_}
+-- A line whose value is the number's digits.
+use mathlib.Core.Path.{_≡_, sym, _∙_, ap}
 use native.Mathlib.Omega.{arith}
-use lib.ListN.{length}
+use lib.ListN.{length, take, replicate}
+use lib.Seq.{length-take-le}
+use Rattle.layout.proofs.Fronts.{take-over}
+use Rattle.layout.specs.Layout.{over}
 use Rattle.text.specs.Text.{decimal}
-use Rattle.text.proofs.Decimals.{decimal-short}
-use Rattle.files.proofs.Lines.{name-within, Lined, lined}
+use Rattle.text.proofs.Decimals.{decimal-short, fitted-all}
 use borrow.Author.Needs.{needs}
 use Rattle.files.proofs.heading.put_number_line.Statement.{statement}
 use Rattle.files.proofs.heading.put_number_line.Tie as tie
 
-room : (s : tie.Start) → length (s .args .name .now) + length (decimal (s .args .x)) + 1 ≤ length (s .args .out .now)
-room s = omega (arith, s .pre, decimal-short (s .args .x))
+-- the digits were put, since there was room for ten
+told : (c : tie.After-put-decimal) → c .put-decimal .result ≡ length (decimal (c .before .before .before .before .args .x))
+told c = c .put-decimal .ensures .0 ∙ ap length (fitted-all (decimal (c .before .before .before .before .args .x)) (replicate 10 0) (decimal-short (c .before .before .before .before .args .x)))
 
--- the name is there
-within : (c : tie.After-slice-known2) → c .before .before .put .result ≤ length (c .before .before .put .last .1 .0)
-within c =
-    let p = c .before .before in
-    let s = p .before .before .before .before in
-    name-within (s .args .name .now) (decimal (s .args .x)) (s .args .out .now) (p .put .last .1 .0) _ (room s) (p .put .ensures .0) (p .put .ensures .1)
-
-sub-put-decimal : tie.Need-sub-put-decimal
-sub-put-decimal c = within c
-
-part-put-decimal-start : tie.Need-part-put-decimal-start
-part-put-decimal-start c = within c
-
--- and the number
-there : (c : tie.After-slice-known3) → Lined (c .before .before .before .before .before .before .before .before .before .before .args .name .now) (decimal (c .before .before .before .before .before .before .before .before .before .before .args .x)) (c .before .before .before .before .before .before .before .before .before .before .args .out .now) (c .before .before .before .before .before .before .put .last .1 .0) (c .before .before .before .before .before .before .put .result) (c .before .before .put-decimal .result) (c .before .before .put-decimal .last .1 .0)
+there : (c : tie.After-put-decimal) → take (c .put-decimal .result) (c .put-decimal .last .1 .0) ≡ decimal (c .before .before .before .before .args .x)
 there c =
-    let v = c .before .before in
-    let p = v .before .before .before .before in
+    let d = decimal (c .before .before .before .before .args .x) in
+    ap (take (c .put-decimal .result)) (c .put-decimal .ensures .1 ∙ ap (λ t. over t (replicate 10 0)) (fitted-all d (replicate 10 0) (decimal-short (c .before .before .before .before .args .x))))
+    ∙ take-over (c .put-decimal .result) d (replicate 10 0) (sym (told c))
+
+array-share-prefix-digits : tie.Need-array-share-prefix-digits
+array-share-prefix-digits c = omega (arith, told (c .before), decimal-short (c .before .before .before .before .before .args .x), c .before .put-decimal .kept)
+
+slice-aggregate-put-word-line : tie.Need-slice-aggregate-put-word-line
+slice-aggregate-put-word-line c =
+    let p = c .before .before in
+    sym (length-take-le _ (p .put-decimal .last .1 .0) (omega (arith, told p, decimal-short (p .before .before .before .before .args .x), p .put-decimal .kept)))
+
+put-word-line-requires : tie.Need-put-word-line-requires
+put-word-line-requires c κs =
+    let p = c .before .before .before in
     let s = p .before .before .before .before in
-    lined (s .args .name .now) (decimal (s .args .x)) (s .args .out .now) (p .put .last .1 .0) _ (room s) (p .put .ensures .0) (p .put .ensures .1) _ (v .put-decimal .last .1 .0) (v .put-decimal .ensures .0) (v .put-decimal .ensures .1)
-
-add-length : tie.Need-add-length
-add-length c = omega (arith, there c .small)
-
-slice-write-out : tie.Need-slice-write-out
-slice-write-out c = there c .within
-
-add-result : tie.Need-add-result
-add-result c = omega (arith, there c .small)
-
-same-length : tie.Need-same-length
-same-length c = there c .kept
+    rw (there p) (omega (arith, s .pre, decimal-short (s .args .x)))
 
 returns : tie.Need-returns
-returns c = (there c .answer, there c .text)
+returns c =
+    let w = c .before .before in
+    rw (there (w .before .before .before .before)) at (w .put-word-line .ensures)
 
 pub put-number-line-spec : {M : Type 1} → statement M
 put-number-line-spec =
     tie.close
     (tie.spec
     (search needs)
-    sub-put-decimal
-    part-put-decimal-start
     (search needs)
+    array-share-prefix-digits
+    slice-aggregate-put-word-line
+    put-word-line-requires
     (search needs)
-    add-length
-    slice-write-out
-    add-result
-    same-length
     returns)

@@ -2,3 +2,5 @@ pub mod Tests
 pub mod Block
 pub mod Whole
 pub mod Onward
+pub mod Sizes
+pub mod Numbers

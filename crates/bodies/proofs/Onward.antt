@@ -1,19 +1,17 @@
 -- Block by block: what a body, its refusal and its list are, is what its first block is and the same of the rest.
 use mathlib.Core.Path.{_≡_, sym, _∙_, ap}
 use mathlib.Core.List.{List, [], _++_}
-use Prim.Native.Nat.{ℕ, zero, suc, _+_, _*_, _-_, _/_, _≤_, _<_, min}
-use native.Mathlib.Nat.{div-eq-of-lt, add-div-right, div-mul-le-self, mul-le-mul}
+use Prim.Native.Nat.{ℕ, suc, _+_, _-_, _/_, _≤_, _<_, min}
+use native.Mathlib.Nat.{div-eq-of-lt, add-div-right}
 use native.Mathlib.Numerals.{add-one}
 use native.Mathlib.Omega.{arith}
 use native.Mathlib.Decide.{decLt}
-use lib.ListN.{length, take, drop, length-append, length-drop, length-take, take-append-drop}
+use lib.ListN.{length, take, drop, length-drop, length-take, take-append-drop}
 use Rattle.layout.specs.Layout.{blockSize}
-use Rattle.layout.proofs.Tables.{length-packed}
-use Rattle.layout.proofs.Widths.{width-most}
 use Rattle.modes.specs.declared.Mode.{Mode}
 use Rattle.order.specs.Order.{afterAll, entriesOf, valuesOf}
 use Rattle.order.proofs.Steps.{length-entries, entries-append, values-append}
-use Rattle.bodies.specs.Body.{filled, widthOf, block, blockCount, blocksOf, bodyOf}
+use Rattle.bodies.specs.Body.{block, blockCount, blocksOf, bodyOf}
 use Rattle.bodies.specs.Reading.{orElse, sizeAt, entriesAt, valuesAt, blockRefusal, refusalFrom, bodyRefusal, entriesFrom, listOf}
 use Rattle.bodies.proofs.Whole.{front}
 
@@ -78,29 +76,3 @@ module _ (L : ℕ) (lanes : 0 < L) where
       → listOf L m count bs ≡ valuesAt L m (min (blockSize L) count) bs ++ listOf L (afterAll m (valuesAt L m (min (blockSize L) count) bs)) (count - blockSize L) (drop (sizeAt L bs) bs)
   unfolding listOf entriesFrom
   list-next m count bs pos = rw (blocks-next count pos) (values-append m (entriesAt L (min (blockSize L) count) bs) _)
-
--- how long a body is at most
-
-block-short : (L : ℕ) (es : List ℕ) → L ≤ 8 → length (block L es) ≤ 1025
-unfolding block
-block-short L es h =
-    let narrow : 4 * L * widthOf L es ≤ 32 * 32 = mul-le-mul {n₁ = 4 * L} {n₂ = 32} (omega arith) (width-most (filled es) (blockSize L)) in
-    rw length-packed (omega arith)
-
-blocks-short : (L : ℕ) (es : List ℕ) (b : ℕ) → L ≤ 8 → length (blocksOf L es b) ≤ b * 1025
-unfolding blocksOf
-blocks-short L es zero h = omega arith
-blocks-short L es (suc b) h =
-    let n : ℕ = blockSize L in
-    rw length-append (omega (arith, block-short L (take n es) h, blocks-short L (drop n es) b h))
-
-pub body-short : (L : ℕ) (m : Mode) (vs : List ℕ) → 0 < L → L ≤ 8 → length vs ≤ 4096 → length (bodyOf L m vs) ≤ 4198400
-unfolding bodyOf blockCount
-body-short L m vs pos small few =
-    let n : ℕ = blockSize L in
-    let b : ℕ = (length vs + (n - 1)) / n in
-    let fewer : b ≤ 4096 = omega (arith, div-mul-le-self (length vs + (n - 1)) n, times b) in
-    omega (arith, blocks-short L (entriesOf m vs) b small)
-  where
-    times : (b : ℕ) → b * 32 ≤ b * blockSize L
-    times b = mul-le-mul {n₁ = b} {m₁ = 32} {n₂ = b} {m₂ = blockSize L} (omega arith) (omega arith)

@@ -44,7 +44,7 @@ front n xs ys c a b = go (decLt c n)
         let z : ys ≡ [] = empty ys (omega arith) in
         rw (z, append-nil xs) (take-all n xs (omega arith), drop-of-length-le xs {i = n} (omega arith))
 
-suc-times : (b n : ℕ) → suc b * n ≡ b * n + n
+pub suc-times : (b n : ℕ) → suc b * n ≡ b * n + n
 suc-times b n = rw (← add-one) (one-more b n)
 
 -- what is accepted is written for its entries

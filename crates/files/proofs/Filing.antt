@@ -14,16 +14,16 @@ use Rattle.modes.specs.declared.Mode.{Mode}
 use Rattle.blocks.specs.declared.Answer.{Answer}
 use Rattle.blocks.specs.declared.refusal.Refusal.the-variants.{Accepted, NoRoom}
 use Rattle.blocks.specs.Refusals.{accepted}
-use Rattle.blocks.proofs.Tests.{lanes-of, accepted-is}
+use Rattle.blocks.proofs.Tests.{accepted-is}
 use Rattle.blocks.proofs.Answers.{overwritten}
 use Rattle.bodies.specs.Body.{bodyOf}
-use Rattle.bodies.proofs.Onward.{body-short}
+use Rattle.bodies.proofs.Sizes.{body-short}
 use Rattle.lists.specs.Calls.{measureRefusal, measureAnswer, writeRefusal, writeOutput}
 use Rattle.lists.proofs.Accepts.{Measurable, measure-exactly, write-exactly}
-use Rattle.text.specs.Text.{decimal, fitted}
+use Rattle.text.specs.Text.{decimal, fitted, line}
 use Rattle.text.proofs.Decimals.{fitted-all}
 use Rattle.files.specs.declared.heading.Header.{Header}
-use Rattle.files.specs.Header.{line, settings, fileOf, headerText}
+use Rattle.files.specs.Header.{settings, fileOf, headerText}
 use Rattle.files.specs.Calls.{headerFor, fileFor, writeAnswerOf, writeOutputOf}
 use Rattle.files.proofs.Lines.{header-are, header-short}
 
@@ -54,8 +54,7 @@ module _ (L : ℕ) (m : Mode) (vs before : List ℕ) (r : Answer) (told : r ≡ 
 
   pub length-small : r .length < 2 ^ 32
   length-small =
-      let g = lanes-of L (able .lanes) in
-      omega (arith, body-length, body-short L m vs (g .0) (g .1) (able .few))
+      omega (arith, body-length, body-short L (able .lanes) m vs (able .few))
 
   abbrev head : Header
   head = record { lanes = L; mode = m; count = length vs; bytes = r .length }

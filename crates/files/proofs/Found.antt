@@ -14,14 +14,15 @@ use Rattle.modes.specs.Entries.{firstOf}
 use Rattle.modes.specs.declared.Initial.the-variants.{None, Number}
 use Rattle.modes.specs.declared.Mode.{Mode}
 use Rattle.modes.specs.declared.Mode.the-variants.{Plain, Sorted, Strict}
+use Rattle.blocks.specs.Calls.{isLanes}
 use Rattle.blocks.proofs.Tests.{lanes-of}
 use Rattle.order.specs.Order.{starting}
 use Rattle.text.specs.declared.Numeral.{Numeral}
-use Rattle.text.specs.Text.{word, decimal, numberAt}
+use Rattle.text.specs.Text.{word, decimal, line, numberAt, fieldAt}
 use Rattle.text.proofs.Decimals.{number-back, decimal-head}
 use Rattle.files.specs.declared.heading.Header.{Header}
-use Rattle.files.specs.Header.{line, modeWord, firstText, fileOf, Heads}
-use Rattle.files.specs.kernel.Fields.{modeAt, isPlain, isSorted, firstAt, isNone, countAt, bytesAt, fieldAt, modeIn, headerIn}
+use Rattle.files.specs.Header.{modeWord, firstText, settings, fileOf, Heads}
+use Rattle.files.specs.kernel.Fields.{modeAt, isPlain, isSorted, firstAt, isNone, countAt, bytesAt, modeIn, headerIn}
 
 -- what stands at a place, and behind it
 at-place : (bs : List ℕ) (i j : ℕ) → at bs (i + j) ≡ at (drop i bs) j
@@ -163,32 +164,41 @@ module _ (file r : List ℕ) where
   modes-there (Strict None) is small e = open-there e
   modes-there (Strict (Number v)) is small e = strict-there v small (not-open v is) e
 
+-- the three lines of the settings, with a rest behind them
+module _ (file : List ℕ) (L : ℕ) (m : Mode) (r : List ℕ) (lanes : isLanes L ≡ true) (is : starting m ≡ m) (first : firstOf m < 2 ^ 32) (e : file ≡ settings L m r) where
+  abbrev named : List ℕ
+  named = line "mode=" (modeWord m) (line "first=" (firstText m) r)
+
+  lanes-small : L < 2 ^ 32
+  lanes-small = omega (arith, lanes-of L lanes)
+
+  lanes-there : drop 6 file ≡ decimal L ++ (10 ∷ named)
+  lanes-there = ap (drop 6) e
+
+  mode-there : drop (modeAt file) file ≡ modeWord m ++ (10 ∷ line "first=" (firstText m) r)
+  unfolding modeAt
+  mode-there =
+      let e : 12 + numberAt file 6 .length ≡ 6 + numberAt file 6 .length + 6 = omega arith in
+      ap (λ (t : ℕ). drop t file) e ∙ past file 6 L named lanes-small lanes-there 6
+
+  modes : Modes file r m
+  modes = modes-there file r m is first mode-there
+
+  pub settings-found : (headerIn file .lanes ≡ L) × (headerIn file .mode ≡ m)
+  unfolding headerIn
+  settings-found = (field-there file 6 L named lanes-small lanes-there, ap starting (modes .mode) ∙ is)
+
 -- the whole header
 module _ (file : List ℕ) (h : Header) (body : List ℕ) (hd : Heads file h body) where
   abbrev counted : List ℕ
   counted = line "count=" (decimal (h .count)) (line "bytes=" (decimal (h .bytes)) (10 ∷ body))
 
-  abbrev named : List ℕ
-  named = line "mode=" (modeWord (h .mode)) (line "first=" (firstText (h .mode)) (line "count=" (decimal (h .count)) (line "bytes=" (decimal (h .bytes)) (10 ∷ body))))
-
-  lanes-small : h .lanes < 2 ^ 32
-  lanes-small = omega (arith, lanes-of (h .lanes) (hd .sound .lanes))
-
-  lanes-there : drop 6 file ≡ decimal (h .lanes) ++ (10 ∷ named)
+  set : file ≡ settings (h .lanes) (h .mode) counted
   unfolding fileOf
-  lanes-there = ap (drop 6) (hd .whole)
-
-  mode-there : drop (modeAt file) file ≡ modeWord (h .mode) ++ (10 ∷ line "first=" (firstText (h .mode)) counted)
-  unfolding modeAt
-  mode-there =
-      let e : 12 + numberAt file 6 .length ≡ 6 + numberAt file 6 .length + 6 = omega arith in
-      ap (λ (t : ℕ). drop t file) e ∙ past file 6 (h .lanes) named lanes-small lanes-there 6
-
-  modes : Modes file counted (h .mode)
-  modes = modes-there file counted (h .mode) (hd .sound .mode) (hd .sound .first) mode-there
+  set = hd .whole
 
   count-there : drop (countAt file) file ≡ decimal (h .count) ++ (10 ∷ line "bytes=" (decimal (h .bytes)) (10 ∷ body))
-  count-there = modes .count
+  count-there = modes file (h .lanes) (h .mode) counted (hd .sound .lanes) (hd .sound .mode) (hd .sound .first) set .count
 
   bytes-there : drop (bytesAt file) file ≡ decimal (h .bytes) ++ (10 ∷ (10 ∷ body))
   unfolding bytesAt
@@ -197,4 +207,5 @@ module _ (file : List ℕ) (h : Header) (body : List ℕ) (hd : Heads file h bod
   pub fields-found : headerIn file ≡ h
   unfolding headerIn
   fields-found =
-      rw (field-there file 6 (h .lanes) named lanes-small lanes-there, modes .mode, hd .sound .mode, field-there file (countAt file) (h .count) _ (hd .sound .count) count-there, field-there file (bytesAt file) (h .bytes) _ (hd .sound .bytes) bytes-there)
+      let f = settings-found file (h .lanes) (h .mode) counted (hd .sound .lanes) (hd .sound .mode) (hd .sound .first) set in
+      rw (f .0, f .1, field-there file (countAt file) (h .count) _ (hd .sound .count) count-there, field-there file (bytesAt file) (h .bytes) _ (hd .sound .bytes) bytes-there)

@@ -1,5 +1,4 @@
 pub mod Lines
-pub mod Beginnings
 pub mod Tests
 pub mod Filing
 pub mod Found

@@ -1,79 +1,22 @@
 -- Lines written at the front of an output.
 use mathlib.Core.Path.{_≡_, sym, _∙_, ap}
 use mathlib.Core.List.{List, [], _∷_, _++_, append-assoc}
-use Prim.Native.String.{String}
-use Prim.Native.Nat.{ℕ, _+_, _-_, _≤_, _<_}
+use Prim.Native.Nat.{ℕ, _+_, _-_, _≤_}
 use native.Mathlib.Omega.{arith}
-use lib.ListN.{length, set, length-append}
+use lib.ListN.{length, length-append}
 use borrow.Rule.Slice.PartMut.{midOf, putMid}
 use Rattle.layout.specs.Layout.{over}
-use Rattle.layout.proofs.Parts.{part-length}
-use Rattle.layout.proofs.Fronts.{Front, front-length, front-put, front-part}
+use Rattle.layout.proofs.Fronts.{Front, front-length, front-part}
 use Rattle.modes.specs.declared.Initial.{Initial}
 use Rattle.modes.specs.declared.Initial.the-variants.{None, Number}
 use Rattle.modes.specs.declared.Mode.{Mode}
 use Rattle.modes.specs.declared.Mode.the-variants.{Plain, Sorted, Strict}
-use Rattle.text.specs.Text.{word, decimal, fitted}
-use Rattle.text.proofs.Decimals.{fitted-all, decimal-short}
+use Rattle.text.specs.Text.{word, decimal, line}
+use Rattle.text.proofs.Lines.{number-line-short, line-rest}
 use Rattle.files.specs.declared.heading.Header.{Header}
-use Rattle.files.specs.Header.{line, modeWord, firstField, initialText, firstText, settings, fileOf}
-
--- a name, a value behind it, and byte 10: `out` with the name is out₁, and ys came back as its part behind the name
-pub record Lined (name value out out₁ : List ℕ) (a b : ℕ) (ys : List ℕ) : Type 0 where
-  pub small : a + b + 1 ≤ length out
-  pub within : a + b < length (putMid a (length out₁ - a) out₁ ys)
-  pub kept : length (set (putMid a (length out₁ - a) out₁ ys) (a + b) 10) ≡ length out
-  pub answer : a + b + 1 ≡ length (name ++ (value ++ (10 ∷ [])))
-  pub text : set (putMid a (length out₁ - a) out₁ ys) (a + b) 10 ≡ over (name ++ (value ++ (10 ∷ []))) out
-
-module _ (name value out out₁ : List ℕ) (a : ℕ) (room : length name + length value + 1 ≤ length out) (named : a ≡ length (fitted name out)) (there : out₁ ≡ over (fitted name out) out) where
-  fit : fitted name out ≡ name
-  fit = fitted-all name out (omega arith)
-
-  name-length : length name ≡ a
-  name-length = sym (named ∙ ap length fit)
-
-  first : Front name out out₁
-  first = record { fits = omega arith; here = there ∙ ap (λ (t : List ℕ). over t out) fit }
-
-  pub name-within : a ≤ length out₁
-  name-within = omega (arith, name-length, front-length first a name-length)
-
-  module _ (b : ℕ) (ys : List ℕ) (valued : b ≡ length (fitted value (midOf a (length out₁ - a) out₁))) (came : ys ≡ over (fitted value (midOf a (length out₁ - a) out₁)) (midOf a (length out₁ - a) out₁)) where
-    fit′ : fitted value (midOf a (length out₁ - a) out₁) ≡ value
-    fit′ = fitted-all value (midOf a (length out₁ - a) out₁) (rw (part-length a out₁) (omega (arith, name-length, front-length first a name-length)))
-
-    value-length : length value ≡ b
-    value-length = sym (valued ∙ ap length fit′)
-
-    both-length : length (name ++ value) ≡ a + b
-    both-length = length-append name value ∙ rw (name-length, value-length)
-
-    both : Front (name ++ value) out (putMid a (length out₁ - a) out₁ ys)
-    both = front-part first a name-length value ys (omega (arith, name-length)) (came ∙ ap (λ (t : List ℕ). over t (midOf a (length out₁ - a) out₁)) fit′)
-
-    both-small : a + b + 1 ≤ length out
-    both-small = omega (arith, name-length, value-length)
-
-    line-front : Front ((name ++ value) ++ (10 ∷ [])) out (set (putMid a (length out₁ - a) out₁ ys) (a + b) 10)
-    line-front = front-put both (a + b) both-length 10 (omega (arith, both-small))
-
-    pub lined : Lined name value out out₁ a b ys
-    lined =
-        let len : length ((name ++ value) ++ (10 ∷ [])) ≡ a + b + 1 = length-append (name ++ value) (10 ∷ []) ∙ ap (λ (t : ℕ). t + 1) both-length in
-        let e : (name ++ value) ++ (10 ∷ []) ≡ name ++ (value ++ (10 ∷ [])) = append-assoc name value (10 ∷ []) in
-        record {
-          small = both-small;
-          within = omega (arith, front-length both (a + b) both-length, both-small);
-          kept = front-length line-front (a + b + 1) len;
-          answer = rw (← e) (sym len);
-          text = rw (← e) (line-front .here);
-        }
+use Rattle.files.specs.Header.{modeWord, firstField, initialText, firstText, settings, fileOf}
 
 -- how long lines are
-pub number-line-short : (name : List ℕ) (x : ℕ) → length (name ++ (decimal x ++ (10 ∷ []))) ≤ length name + 11
-number-line-short name x = rw (length-append, length-append) (omega (arith, decimal-short x))
-
 pub mode-line-short : (m : Mode) → length (line "mode=" (modeWord m) []) ≤ 12
 mode-line-short Plain = omega arith
 mode-line-short (Sorted f) = omega arith
@@ -86,15 +29,11 @@ initial-short (Number f) = number-line-short (word "first=") f
 pub first-line-short : (m : Mode) → length (line "first=" (firstText m) []) ≤ 17
 first-line-short m = initial-short (firstField m)
 
--- a line with a rest behind it is the line, and the rest
-pub line-rest : (name : String) (value rest : List ℕ) → line name value [] ++ rest ≡ line name value rest
-line-rest name value rest = append-assoc (word name) (value ++ (10 ∷ [])) rest ∙ ap (λ (t : List ℕ). word name ++ t) (append-assoc value (10 ∷ []) rest)
-
 -- the three lines of the settings
 pub settings-are : (L : ℕ) (m : Mode) (rest : List ℕ) → line "lanes=" (decimal L) [] ++ (line "mode=" (modeWord m) [] ++ (line "first=" (firstText m) [] ++ rest)) ≡ settings L m rest
 settings-are L m rest = rw (line-rest "first=" (firstText m) rest, line-rest "mode=" (modeWord m) (line "first=" (firstText m) rest)) (line-rest "lanes=" (decimal L) (line "mode=" (modeWord m) (line "first=" (firstText m) rest)))
 
-settings-rest : (L : ℕ) (m : Mode) (rest : List ℕ) → settings L m [] ++ rest ≡ settings L m rest
+pub settings-rest : (L : ℕ) (m : Mode) (rest : List ℕ) → settings L m [] ++ rest ≡ settings L m rest
 settings-rest L m rest =
     append-assoc (word "lanes=") (decimal L ++ (10 ∷ line "mode=" (modeWord m) (line "first=" (firstText m) []))) rest
     ∙ ap (λ (t : List ℕ). word "lanes=" ++ t) (append-assoc (decimal L) (10 ∷ line "mode=" (modeWord m) (line "first=" (firstText m) [])) rest

@@ -1,32 +1,23 @@
 -- What a file passes.
 use mathlib.Core.Path.{_≡_, refl, sym, _∙_}
 use mathlib.Core.Bool.{true, false}
-use mathlib.Core.List.{List}
-use Prim.Native.Nat.{ℕ, _-_, _≤_, _<_}
-use native.Mathlib.Omega.{arith}
-use native.Mathlib.Decide.{decLt}
+use mathlib.Core.List.{List, []}
+use Prim.Native.Nat.{ℕ, _-_}
 use borrow.Author.Tests.{eqb-true, eq-eqb}
 use lib.Dec.{eqb}
 use lib.ListN.{length, length-drop}
 use Rattle.layout.proofs.Widths.{and-both}
 use Rattle.blocks.specs.declared.Answer.{Answer}
-use Rattle.blocks.specs.declared.refusal.Refusal.the-variants.{BadHeader}
+use Rattle.blocks.specs.declared.refusal.Refusal.the-variants.{Accepted, BadHeader}
 use Rattle.blocks.specs.Calls.{isLanes}
 use Rattle.lists.specs.Calls.{readAnswer, readOutput}
-use Rattle.blocks.proofs.Tests.{apart}
+use Rattle.text.specs.Text.{begins}
 use Rattle.files.specs.declared.heading.Header.{Header}
-use Rattle.files.specs.Header.{headerText}
+use Rattle.files.specs.declared.Packing.{Packing}
+use Rattle.files.specs.Header.{settings, headerText}
 use Rattle.files.specs.kernel.Fields.{headerIn}
-use Rattle.files.specs.Opening.{begins, bodyIn, isFile, openAnswer}
+use Rattle.files.specs.Opening.{bodyIn, isFile, openAnswer, isSettings, noSettings, settingsAnswer}
 use Rattle.files.specs.Calls.{readAnswerOf, readOutputOf}
-use Rattle.files.proofs.Beginnings.{begins-short}
-
-pub begins-within : (t bs : List ℕ) → begins t bs ≡ true → length t ≤ length bs
-begins-within t bs h = go (decLt (length bs) (length t))
-  where
-    go : Dec (length bs < length t) → length t ≤ length bs
-    go (yes lt) = absurd (apart (sym h ∙ begins-short t bs lt))
-    go (no ge) = omega arith
 
 -- one test after another, for the header h that the fields give
 module _ (file : List ℕ) (h : Header) (is : h ≡ headerIn file) where
@@ -42,6 +33,20 @@ module _ (file : List ℕ) (h : Header) (is : h ≡ headerIn file) where
     pub last-test : begins (headerText h) file ≡ true → eqb (h .bytes) (length file - length (headerText h)) ≡ isFile file
     unfolding isFile bodyIn
     last-test b = sym (rw (← is, a, b, length-drop))
+
+  -- of the settings alone
+  pub settings-no-lanes : isLanes (h .lanes) ≡ false → noSettings ≡ settingsAnswer file
+  unfolding isSettings
+  settings-no-lanes a = sym (rw (← is, a))
+
+  module _ (a : isLanes (h .lanes) ≡ true) where
+    pub settings-no-text : begins (settings (h .lanes) (h .mode) []) file ≡ false → noSettings ≡ settingsAnswer file
+    unfolding isSettings
+    settings-no-text b = sym (rw (← is, a, b))
+
+    pub settings-told : begins (settings (h .lanes) (h .mode) []) file ≡ true → _≡_ {A = Packing} (record { refusal = Accepted; lanes = h .lanes; mode = h .mode; length = length (settings (h .lanes) (h .mode) []) }) (settingsAnswer file)
+    unfolding isSettings
+    settings-told b = sym (rw (← is, a, b))
 
 -- all of them
 pub record Filed (file : List ℕ) : Type 0 where

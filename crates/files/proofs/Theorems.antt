@@ -2,7 +2,7 @@
 use mathlib.Core.Path.{_≡_, refl, sym, _∙_, ap, ap₂}
 use mathlib.Core.Bool.{Bool, true, false, cond}
 use mathlib.Core.Logic.{_↔_}
-use mathlib.Core.List.{List, _++_}
+use mathlib.Core.List.{List, [], _++_}
 use Prim.Native.Nat.{ℕ, _+_, _^_, _≤_, _<_}
 use native.Mathlib.Nat.{mod-lt}
 use native.Mathlib.Omega.{arith}
@@ -11,6 +11,7 @@ use lib.ListN.{length, drop}
 use lib.Seq.{drop-at}
 use Rattle.layout.specs.Layout.{Below, over}
 use Rattle.layout.proofs.Below.{below-drop}
+use Rattle.layout.proofs.Widths.{and-both}
 use Rattle.modes.specs.Entries.{firstOf}
 use Rattle.modes.specs.declared.Initial.the-variants.{None, Number}
 use Rattle.modes.specs.declared.Mode.{Mode}
@@ -18,27 +19,28 @@ use Rattle.modes.specs.declared.Mode.the-variants.{Plain, Sorted, Strict}
 use Rattle.blocks.specs.declared.refusal.Refusal.the-variants.{Accepted}
 use Rattle.blocks.specs.Refusals.{accepted}
 use Rattle.blocks.specs.Calls.{isLanes}
-use Rattle.blocks.proofs.Tests.{apart, lanes-of, accepted-is}
+use Rattle.blocks.proofs.Tests.{apart, accepted-is}
 use Rattle.order.specs.Order.{IsList, starting}
 use Rattle.order.proofs.Beginnings.{starting-first, starting-entries, initial-twice, starting-twice}
 use Rattle.bodies.specs.Body.{bodyOf}
-use Rattle.bodies.specs.Reading.{listOf}
 use Rattle.bodies.proofs.Tests.{both}
-use Rattle.bodies.proofs.Onward.{body-short}
+use Rattle.bodies.proofs.Sizes.{body-short}
 use Rattle.lists.specs.Calls.{measureRefusal, readRefusal}
 use Rattle.lists.proofs.Accepts.{measure-exactly}
 use Rattle.lists.specs.Demand.{Holds}
 use Rattle.lists.proofs.Demand.{list-read, body-accepted, list-back}
+use Rattle.text.specs.Text.{begins, fieldAt}
+use Rattle.text.proofs.Beginnings.{begins-whole, whole-begins}
 use Rattle.files.specs.declared.Opened.{Opened}
 use Rattle.files.specs.declared.heading.Header.{Header}
-use Rattle.files.specs.Header.{modeWord, initialText, firstText, fileOf, readBack, headerText, IsHeader, Heads}
-use Rattle.files.specs.kernel.Fields.{isPlain, isSorted, firstAt, isNone, fieldAt, modeIn, headerIn}
-use Rattle.files.specs.Opening.{begins, bodyIn, isFile, headerRefusal, headerAnswer, openAnswer}
+use Rattle.files.specs.Header.{modeWord, initialText, firstText, settings, fileOf, readBack, headerText, IsHeader, Heads, Sets}
+use Rattle.files.specs.kernel.Fields.{isPlain, isSorted, firstAt, isNone, modeIn, headerIn}
+use Rattle.files.specs.Opening.{bodyIn, isFile, headerRefusal, headerAnswer, openAnswer, settingsIn, isSettings, settingsAnswer}
 use Rattle.files.specs.Calls.{listIn, readRefusalOf, readAnswerOf, readOutputOf, headerFor, fileFor, writeAnswerOf, writeOutputOf}
-use Rattle.files.proofs.Beginnings.{begins-whole, whole-begins}
 use Rattle.files.proofs.Tests.{Filed, filed, is-file}
 use Rattle.files.proofs.Filing.{file-splits}
-use Rattle.files.proofs.Found.{fields-found}
+use Rattle.files.proofs.Found.{settings-found, fields-found}
+use Rattle.files.proofs.Lines.{settings-rest}
 
 -- the header of a file that is one
 
@@ -81,7 +83,7 @@ module _ {file : List ℕ} {h : Header} {body : List ℕ} (hd : Heads file h bod
   split : file ≡ headerText h ++ body
   split = hd .whole ∙ sym (file-splits h body)
 
-  body-found : bodyIn file ≡ body
+  pub body-found : bodyIn file ≡ body
   unfolding bodyIn
   body-found = rw (fields-found file h body hd) (ap (drop (length (headerText h))) split ∙ drop-at (headerText h) body (length (headerText h)) refl)
 
@@ -114,6 +116,42 @@ pub header-again : (file : List ℕ) → accepted (headerRefusal file) ≡ true 
 header-again file h =
     let x = opens-exactly file .0 h in
     x .1 .1 .whole ∙ sym (ap₂ fileOf (ap (λ (o : Opened). o .header) (header-back (x .1 .1))) (body-back (x .1 .1)))
+
+-- the lanes, mode and first lines of a text, whatever stands behind them
+
+module _ {text : List ℕ} {L : ℕ} {m : Mode} {rest : List ℕ} (s : Sets text L m rest) where
+  pub sets-found : (headerIn text .lanes ≡ L) × (headerIn text .mode ≡ m)
+  sets-found = settings-found text L m rest (s .lanes) (s .mode) (s .first) (s .whole)
+
+  split-text : text ≡ settings L m [] ++ rest
+  split-text = s .whole ∙ sym (settings-rest L m rest)
+
+  pub sets-settings : isSettings text ≡ true
+  unfolding isSettings
+  sets-settings = rw (sets-found .0, sets-found .1, s .lanes) (ap (begins (settings L m [])) split-text ∙ whole-begins (settings L m []) rest)
+
+  pub rest-found : drop (length (settingsIn text)) text ≡ rest
+  rest-found =
+      let e : settingsIn text ≡ settings L m [] = ap₂ (λ (a : ℕ) (b : Mode). settings a b []) (sets-found .0) (sets-found .1) in
+      ap (λ (t : List ℕ). drop (length t) text) e ∙ ap (drop (length (settings L m []))) split-text ∙ drop-at (settings L m []) rest (length (settings L m [])) refl
+
+  pub settings-back : settingsAnswer text ≡ record { refusal = Accepted; lanes = L; mode = m; length = length (settings L m []) }
+  settings-back = rw (sets-settings, sets-found .0, sets-found .1)
+
+pub settings-sets : (text : List ℕ) → isSettings text ≡ true → Sets text (headerIn text .lanes) (headerIn text .mode) (drop (length (settingsIn text)) text)
+unfolding isSettings headerIn
+settings-sets text h =
+    let a = and-both (isLanes (headerIn text .lanes)) _ h in
+    record {
+      lanes = a .0;
+      mode = starting-twice (modeIn text);
+      first = rw (starting-first (modeIn text)) (mode-small text);
+      whole = begins-whole (settingsIn text) text (a .1) ∙ settings-rest (headerIn text .lanes) (headerIn text .mode) (drop (length (settingsIn text)) text);
+    }
+
+-- accepted are exactly the texts that begin with what some lanes and mode write
+pub settings-exactly : (text : List ℕ) → (isSettings text ≡ true) ↔ ((L : ℕ) × ((m : Mode) × ((rest : List ℕ) × Sets text L m rest)))
+settings-exactly text = (λ h. (headerIn text .lanes, (headerIn text .mode, (drop (length (settingsIn text)) text, settings-sets text h))), λ x. sets-settings (x .1 .1 .1))
 
 -- strict with 4,294,967,295 has the text of strict with none
 
@@ -155,10 +193,10 @@ file-written L m vs before lanes l room =
 
 -- a file accepted, written again from what was read, is the same bytes
 module _ (file : List ℕ) (room : ℕ) (bytes : Below 256 file) (h : accepted (readRefusalOf file room) ≡ true) where
-  opened : Heads file (headerIn file) (bodyIn file)
+  pub opened : Heads file (headerIn file) (bodyIn file)
   opened = header-heads file (heads-file (opens-exactly file .0 (both (headerRefusal file) _ h .0) .1 .1))
 
-  held : Holds (headerIn file .lanes) (headerIn file .mode) (headerIn file .count) (bodyIn file) (listIn file)
+  pub held : Holds (headerIn file .lanes) (headerIn file .mode) (headerIn file .count) (bodyIn file) (listIn file)
   unfolding bodyIn
   held =
       list-read (headerIn file .lanes) (headerIn file .mode) (opened .sound .lanes) (opened .sound .first) (headerIn file .count) room (bodyIn file) (below-drop (length (headerText (headerIn file))) file bytes) (both (headerRefusal file) _ h .1)
@@ -184,8 +222,7 @@ module _ (L : ℕ) (m : Mode) (vs : List ℕ) (lanes : isLanes L ≡ true) (firs
   heads : Heads (fileFor L m vs) (readBack (headerFor L m vs)) (bodyOf L m vs)
   unfolding fileFor
   heads =
-      let g = lanes-of L lanes in
-      written-back (headerFor L m vs) (bodyOf L m vs) lanes first (omega (arith, few)) (omega (arith, body-short L m vs (g .0) (g .1) few)) refl
+      written-back (headerFor L m vs) (bodyOf L m vs) lanes first (omega (arith, few)) (omega (arith, body-short L lanes m vs few)) refl
 
   -- its header comes back as it was, and none for strict's 4,294,967,295
   pub file-header-back : headerAnswer (fileFor L m vs) ≡ record { refusal = Accepted; header = readBack (headerFor L m vs) }
@@ -201,14 +238,23 @@ module _ (L : ℕ) (m : Mode) (vs : List ℕ) (lanes : isLanes L ≡ true) (firs
   small : firstOf (starting m) < 2 ^ 32
   small = rw (starting-first m) first
 
+  -- whatever the room, if there is room for the list
+  pub file-accepted : (room : ℕ) → length vs ≤ room → readRefusalOf (fileFor L m vs) room ≡ Accepted
+  file-accepted room enough =
+      let f = fields-found (fileFor L m vs) (readBack (headerFor L m vs)) (bodyOf L m vs) heads in
+      let k : readRefusal L (starting m) (length vs) (bodyOf L m vs) room ≡ Accepted = accepted-is _ (body-accepted L (starting m) lanes small holds room enough) in
+      rw (heads-file heads, f, body-found heads, k)
+
+  pub file-list-back : listIn (fileFor L m vs) ≡ vs
+  file-list-back =
+      let f = fields-found (fileFor L m vs) (readBack (headerFor L m vs)) (bodyOf L m vs) heads in
+      rw (f, body-found heads) (list-back L (starting m) lanes small holds)
+
   pub file-read-back : (out : List ℕ) → length vs ≤ length out → (readAnswerOf (fileFor L m vs) (length out) ≡ record { refusal = Accepted; length = length vs }) × (readOutputOf (fileFor L m vs) out ≡ over vs out)
   file-read-back out room =
       let f = fields-found (fileFor L m vs) (readBack (headerFor L m vs)) (bodyOf L m vs) heads in
-      let b = body-found heads in
-      let a : accepted (readRefusal L (starting m) (length vs) (bodyOf L m vs) (length out)) ≡ true = body-accepted L (starting m) lanes small holds (length out) room in
-      let k : readRefusal L (starting m) (length vs) (bodyOf L m vs) (length out) ≡ Accepted = accepted-is _ a in
-      let back : listOf L (starting m) (length vs) (bodyOf L m vs) ≡ vs = list-back L (starting m) lanes small holds in
-      rw (heads-file heads, f, b, k, back) (refl, refl)
+      let k = file-accepted (length out) room in
+      (rw k (ap (λ (h : Header). record { refusal = Accepted; length = h .count }) f), rw (k, file-list-back))
 
 pub last-is-none : starting (Strict (Number 4294967295)) ≡ Strict None
 last-is-none = refl

@@ -1,9 +1,8 @@
 -- "List file" of document 01: a header, and its text.
 use mathlib.Core.Path.{_≡_}
 use mathlib.Core.Bool.{true}
-use mathlib.Core.List.{List, [], _∷_, _++_}
+use mathlib.Core.List.{List, [], _∷_}
 use Prim.Native.Nat.{ℕ, _^_, _<_}
-use Prim.Native.String.{String}
 use lib.ListN.{length}
 use Rattle.modes.specs.declared.Initial.{Initial}
 use Rattle.modes.specs.declared.Initial.the-variants.{None, Number}
@@ -12,12 +11,8 @@ use Rattle.modes.specs.declared.Mode.the-variants.{Plain, Sorted, Strict}
 use Rattle.modes.specs.Entries.{firstOf}
 use Rattle.blocks.specs.Calls.{isLanes}
 use Rattle.order.specs.Order.{startingInitial, starting}
-use Rattle.text.specs.Text.{word, decimal}
+use Rattle.text.specs.Text.{word, decimal, line}
 use Rattle.files.specs.declared.heading.Header.{Header}
-
--- "Each line ends in byte 10": a line, with the rest of a text behind it
-abbrev pub line : String → List ℕ → List ℕ → List ℕ
-line name value rest = word name ++ (value ++ (10 ∷ rest))
 
 -- "`mode=` plain, sorted or strict"
 abbrev pub modeWord : Mode → List ℕ
@@ -76,3 +71,10 @@ pub record Heads (file : List ℕ) (h : Header) (body : List ℕ) : Type 0 where
   pub sound : IsHeader h
   pub whole : file ≡ fileOf h body
   pub told : h .bytes ≡ length body
+
+-- a text is the three lines of the settings, for some lanes and mode, with a rest behind them
+pub record Sets (text : List ℕ) (L : ℕ) (m : Mode) (rest : List ℕ) : Type 0 where
+  pub lanes : isLanes L ≡ true
+  pub mode : starting m ≡ m
+  pub first : firstOf m < 2 ^ 32
+  pub whole : text ≡ settings L m rest

@@ -1,8 +1,8 @@
 -- Opening a list file. A file is one that some header writes, with `bytes` equal to the length of what follows: the header that its
 -- fields give is written, and must be what the file begins with. That this accepts exactly those files is a theorem (proofs/Theorems,
 -- opens-exactly).
-use mathlib.Core.Bool.{Bool, true, false, not, _&&_, cond}
-use mathlib.Core.List.{List, [], _∷_}
+use mathlib.Core.Bool.{Bool, not, _&&_, cond}
+use mathlib.Core.List.{List, []}
 use Prim.Native.Nat.{ℕ}
 use lib.Dec.{eqb}
 use lib.ListN.{length, drop}
@@ -11,16 +11,12 @@ use Rattle.blocks.specs.declared.refusal.Refusal.{Refusal}
 use Rattle.blocks.specs.declared.refusal.Refusal.the-variants.{Accepted, BadHeader}
 use Rattle.blocks.specs.Refusals.{refuse}
 use Rattle.blocks.specs.Calls.{isLanes}
+use Rattle.text.specs.Text.{begins}
 use Rattle.files.specs.declared.heading.Header.{Header}
 use Rattle.files.specs.declared.Opened.{Opened}
-use Rattle.files.specs.Header.{headerText}
+use Rattle.files.specs.declared.Packing.{Packing}
+use Rattle.files.specs.Header.{settings, headerText}
 use Rattle.files.specs.kernel.Fields.{headerIn}
-
--- whether bs begins with the text t
-unfoldable pub begins : List ℕ → List ℕ → Bool
-begins [] bs = true
-begins (x ∷ t) [] = false
-begins (x ∷ t) (b ∷ bs) = eqb x b && begins t bs
 
 -- "from after the empty line to the end"
 unfoldable pub bodyIn : List ℕ → List ℕ
@@ -44,3 +40,18 @@ headerAnswer file = record { refusal = headerRefusal file; header = cond (isFile
 -- "The body is handed back as a part of the caller's file bytes .. where that is given it hands back the empty part"
 abbrev pub openAnswer : List ℕ → List ℕ
 openAnswer file = cond (isFile file) (bodyIn file) []
+
+-- the lanes, mode and first lines alone: whether a text begins with them, and how long they are
+abbrev pub settingsIn : List ℕ → List ℕ
+settingsIn text = settings (headerIn text .lanes) (headerIn text .mode) []
+
+unfoldable pub isSettings : List ℕ → Bool
+isSettings text = isLanes (headerIn text .lanes) && begins (settingsIn text) text
+
+-- what is handed out beside 12
+abbrev pub noSettings : Packing
+noSettings = record { refusal = BadHeader; lanes = 0; mode = Plain; length = 0 }
+
+-- the settings call
+abbrev pub settingsAnswer : List ℕ → Packing
+settingsAnswer text = cond (isSettings text) (record { refusal = Accepted; lanes = headerIn text .lanes; mode = headerIn text .mode; length = length (settingsIn text) }) noSettings

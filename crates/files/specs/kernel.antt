@@ -1,2 +1,3 @@
--- What the private functions say to each other. A reader of the public contracts need not believe any of it.
+-- Where the fields of a header stand. Public definitions are built on it, and nobody need believe it: opens-exactly and settings-exactly
+-- (proofs/Theorems) say what is accepted.
 pub mod Fields

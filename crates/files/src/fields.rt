@@ -4,11 +4,12 @@ use crate::heading::Header;
 use modes::Initial;
 use modes::Mode;
 use order::starting;
+use text::field;
 use text::number;
 ghost use mathlib.Core.Path.{_≡_};
-ghost use Prim.Native.Nat.{_%_, _^_, _≤_};
+ghost use Prim.Native.Nat.{_≤_};
 ghost use Rattle.layout.specs.Layout.{at};
-ghost use Rattle.files.specs.kernel.Fields.{modeAt, firstAt, countAt, bytesAt, fieldAt, modeIn, headerIn};
+ghost use Rattle.files.specs.kernel.Fields.{modeAt, firstAt, countAt, bytesAt, modeIn, headerIn};
 
 // The byte at a place, and 0 past the end.
 fn byte_at(bytes: &[u8], place: usize) -> u8
@@ -53,13 +54,6 @@ fn bytes_at(file: &[u8]) -> usize
     place + number(file, place).length + 7
 }
 
-// The number at a place. One that is too great becomes another, whose text is another too.
-fn field_at(file: &[u8], place: usize) -> u32
-    ensures { λ r. ⌜ r ≡ fieldAt (now (file .entry)) place ⌝ }
-{
-    (number(file, place).value % 4294967296) as u32
-}
-
 fn mode_in(file: &[u8]) -> Mode
     ensures { λ r. ⌜ r ≡ modeIn (now (file .entry)) ⌝ }
 {
@@ -69,21 +63,21 @@ fn mode_in(file: &[u8]) -> Mode
     }
     let first = first_at(file);
     if byte_at(file, place + 1) == 111 {
-        return Mode::Sorted(field_at(file, first));
+        return Mode::Sorted(field(file, first));
     }
     if byte_at(file, first) == 110 {
         return Mode::Strict(Initial::None);
     }
-    Mode::Strict(Initial::Number(field_at(file, first)))
+    Mode::Strict(Initial::Number(field(file, first)))
 }
 
 pub(crate) fn header_in(file: &[u8]) -> Header
     ensures { λ r. ⌜ r ≡ headerIn (now (file .entry)) ⌝ }
 {
-    let lanes = field_at(file, 6);
+    let lanes = field(file, 6);
     let mode = starting(mode_in(file));
-    let count = field_at(file, count_at(file));
-    let bytes = field_at(file, bytes_at(file));
+    let count = field(file, count_at(file));
+    let bytes = field(file, bytes_at(file));
     Header {
         lanes,
         mode,

@@ -2,15 +2,15 @@
 use modes::Initial;
 use modes::Mode;
 use order::starting_initial;
-use text::put;
-use text::put_decimal;
+use text::put_line;
+use text::put_number_line;
 ghost use mathlib.Core.Path.{_≡_};
 ghost use mathlib.Core.List.{[], _∷_, _++_};
 ghost use Prim.Native.Nat.{_+_, _≤_};
 ghost use lib.ListN.{length};
 ghost use Rattle.layout.specs.Layout.{over};
-ghost use Rattle.text.specs.Text.{decimal};
-ghost use Rattle.files.specs.Header.{line, modeWord, firstField, firstText, settings, headerText};
+ghost use Rattle.text.specs.Text.{decimal, line};
+ghost use Rattle.files.specs.Header.{modeWord, firstField, firstText, settings, headerText};
 
 // What the five lines say.
 pub struct Header {
@@ -20,27 +20,13 @@ pub struct Header {
     pub bytes: u32,
 }
 
-// A line whose value is a word.
-fn put_word_line(name: &[u8], value: &[u8], out: &mut [u8]) -> usize
-    requires { ⌜ length (now name) + length (now value) + 1 ≤ length (now out) ⌝ }
-    ensures { λ r. ⌜ r ≡ length (now (name .entry) ++ (now (value .entry) ++ (10 ∷ []))) ⌝ }
-    ensures { λ r. ⌜ now (out .exit) ≡ over (now (name .entry) ++ (now (value .entry) ++ (10 ∷ []))) (now (out .entry)) ⌝ }
-{
-    let named = put(name, &mut out[..]);
-    let length = named + put(value, &mut out[named..]);
-    out[length] = 10;
-    length + 1
-}
-
-// A line whose value is a number.
-fn put_number_line(name: &[u8], x: u32, out: &mut [u8]) -> usize
+// A line whose value is a number, with room for it.
+fn number_line(name: &[u8], x: u32, out: &mut [u8]) -> usize
     requires { ⌜ length (now name) + 11 ≤ length (now out) ⌝ }
     ensures { λ r. ⌜ r ≡ length (now (name .entry) ++ (decimal x ++ (10 ∷ []))) ⌝ }
     ensures { λ r. ⌜ now (out .exit) ≡ over (now (name .entry) ++ (decimal x ++ (10 ∷ []))) (now (out .entry)) ⌝ }
 {
-    let mut digits = [0u8; 10];
-    let length = put_decimal(x, &mut digits);
-    put_word_line(name, &digits[..length], out)
+    put_number_line(name, x, out)
 }
 
 fn put_mode_line(mode: Mode, out: &mut [u8]) -> usize
@@ -49,9 +35,9 @@ fn put_mode_line(mode: Mode, out: &mut [u8]) -> usize
     ensures { λ r. ⌜ now (out .exit) ≡ over (line "mode=" (modeWord mode) []) (now (out .entry)) ⌝ }
 {
     match mode {
-        Mode::Plain => put_word_line(b"mode=", b"plain", out),
-        Mode::Sorted(_) => put_word_line(b"mode=", b"sorted", out),
-        Mode::Strict(_) => put_word_line(b"mode=", b"strict", out),
+        Mode::Plain => put_line(b"mode=", b"plain", out),
+        Mode::Sorted(_) => put_line(b"mode=", b"sorted", out),
+        Mode::Strict(_) => put_line(b"mode=", b"strict", out),
     }
 }
 
@@ -73,8 +59,8 @@ fn put_first_line(mode: Mode, out: &mut [u8]) -> usize
 {
     let start = first_field(mode);
     match start {
-        Initial::None => put_word_line(b"first=", b"none", out),
-        Initial::Number(first) => put_number_line(b"first=", first, out),
+        Initial::None => put_line(b"first=", b"none", out),
+        Initial::Number(first) => number_line(b"first=", first, out),
     }
 }
 
@@ -84,7 +70,7 @@ pub(crate) fn put_settings(lanes: u32, mode: Mode, out: &mut [u8]) -> usize
     ensures { λ r. ⌜ r ≡ length (settings lanes mode []) ⌝ }
     ensures { λ r. ⌜ now (out .exit) ≡ over (settings lanes mode []) (now (out .entry)) ⌝ }
 {
-    let first = put_number_line(b"lanes=", lanes, &mut out[..]);
+    let first = number_line(b"lanes=", lanes, &mut out[..]);
     let second = first + put_mode_line(mode, &mut out[first..]);
     second + put_first_line(mode, &mut out[second..])
 }
@@ -100,8 +86,8 @@ pub(crate) fn put_header(header: Header, out: &mut [u8]) -> usize
     let count = header.count;
     let bytes = header.bytes;
     let first = put_settings(lanes, mode, &mut out[..]);
-    let second = first + put_number_line(b"count=", count, &mut out[first..]);
-    let third = second + put_number_line(b"bytes=", bytes, &mut out[second..]);
+    let second = first + number_line(b"count=", count, &mut out[first..]);
+    let third = second + number_line(b"bytes=", bytes, &mut out[second..]);
     out[third] = 10;
     third + 1
 }

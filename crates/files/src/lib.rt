@@ -1,39 +1,24 @@
-// The list file calls of document 01. Each takes any input; none limits the size of a file.
+// The list file calls of document 01, and one for the lines that a file and a text have in common. Each takes any input; none limits the
+// size of a file.
 use blocks::Answer;
 use blocks::is_lanes;
 use blocks::refusal::Refusal;
 use fields::header_in;
 use heading::Header;
 use heading::put_header;
+use heading::put_settings;
 use lists::measure;
 use modes::Mode;
+use text::begins;
 use text::put;
 ghost use mathlib.Core.Path.{_≡_};
-ghost use mathlib.Core.Bool.{true};
 ghost use lib.ListN.{length};
 ghost use Rattle.files.specs.Header.{headerText};
-ghost use Rattle.files.specs.Opening.{begins, isFile, headerAnswer, openAnswer};
+ghost use Rattle.files.specs.Opening.{isFile, headerAnswer, openAnswer, settingsAnswer};
 ghost use Rattle.files.specs.Calls.{readAnswerOf, readOutputOf, writeAnswerOf, writeOutputOf};
 
 mod fields;
 pub mod heading;
-
-// Whether the file begins with the text.
-fn begins(text: &[u8], file: &[u8]) -> bool
-    ensures { λ r. ⌜ r ≡ begins (now (text .entry)) (now (file .entry)) ⌝ }
-{
-    if file.len() < text.len() {
-        return false;
-    }
-    let mut i: usize = 0;
-    while i < text.len() {
-        if text[i] != file[i] {
-            return false;
-        }
-        i += 1;
-    }
-    true
-}
 
 // The length of the header's text.
 fn header_length(header: Header) -> usize
@@ -148,5 +133,42 @@ pub fn write(lanes: usize, mode: Mode, values: &[u32], file: &mut [u8]) -> Answe
     Answer {
         refusal,
         length: length + bytes,
+    }
+}
+
+// How a list is to be packed, as the lanes, mode and first lines of a text say it, and how long these lines are.
+pub struct Packing {
+    pub refusal: Refusal,
+    pub lanes: u32,
+    pub mode: Mode,
+    pub length: usize,
+}
+
+// What the lanes, mode and first lines say that a text begins with; or 12, lanes 0, plain and length 0.
+pub fn settings(text: &[u8]) -> Packing
+    ensures { λ r. ⌜ r ≡ settingsAnswer (now (text .entry)) ⌝ }
+{
+    let none = Packing {
+        refusal: Refusal::BadHeader,
+        lanes: 0,
+        mode: Mode::Plain,
+        length: 0,
+    };
+    let header = header_in(text);
+    let lanes = header.lanes;
+    let mode = header.mode;
+    if !is_lanes(lanes as usize) {
+        return none;
+    }
+    let mut lines = [0u8; 64];
+    let length = put_settings(lanes, mode, &mut lines);
+    if !begins(&lines[..length], text) {
+        return none;
+    }
+    Packing {
+        refusal: Refusal::Accepted,
+        lanes,
+        mode,
+        length,
     }
 }

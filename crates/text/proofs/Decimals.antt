@@ -7,7 +7,7 @@ use native.Mathlib.Nat.{pow-suc, pow-succ', div-div-eq-div-mul, div-lt-iff-lt-mu
 use native.Mathlib.Numerals.{add-one}
 use native.Mathlib.Omega.{arith}
 use native.Mathlib.Decide.{decLt}
-use borrow.Author.Tests.{lt-ltb, le-ltb, le-leb}
+use borrow.Author.Tests.{lt-ltb, le-ltb, le-leb, lt-leb}
 use lib.Dec.{leb}
 use lib.ListN.{length, drop, length-append}
 use Rattle.layout.specs.Layout.{at}
@@ -121,6 +121,9 @@ number-short bs i = leading-few 10 (drop i bs)
 -- a text is put where there is room for it
 pub fitted-all : (t before : List ℕ) → length t ≤ length before → fitted t before ≡ t
 fitted-all t before h = rw (le-leb (length t) (length before) h)
+
+pub fitted-none : (t before : List ℕ) → length before < length t → fitted t before ≡ []
+fitted-none t before h = rw (lt-leb (length t) (length before) h)
 
 -- a number begins with a digit, and not with a letter n
 pub decimal-head : (n : ℕ) (rest : List ℕ) → at (decimal n ++ rest) 0 ≡ 110 → ⊥

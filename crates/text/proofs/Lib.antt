@@ -1,3 +1,5 @@
 pub mod Decimals
 pub mod Spelling
 pub mod Numbers
+pub mod Lines
+pub mod Beginnings

@@ -1,10 +1,10 @@
--- Texts as bytes: words, and numbers in decimal. "Numbers are decimal, at most 4,294,967,295, without leading zeros."
-use mathlib.Core.Bool.{cond, _&&_}
+-- Texts as bytes: words, numbers in decimal, and lines. "Numbers are decimal, at most 4,294,967,295, without leading zeros."
+use mathlib.Core.Bool.{Bool, true, false, cond, _&&_}
 use mathlib.Core.List.{List, [], _∷_, _++_}
-use Prim.Native.Nat.{ℕ, zero, suc, _+_, _*_, _-_, _/_, _%_}
+use Prim.Native.Nat.{ℕ, zero, suc, _+_, _*_, _-_, _/_, _%_, _^_}
 use Prim.Native.Char.{code}
 use Prim.Native.String as S
-use lib.Dec.{leb, ltb}
+use lib.Dec.{leb, ltb, eqb}
 use lib.ListN.{length, drop}
 use Rattle.text.specs.declared.Numeral.{Numeral}
 
@@ -27,6 +27,20 @@ places (suc more) n = cond (ltb n 10) 1 (suc (places more (n / 10)))
 unfoldable pub decimal : ℕ → List ℕ
 decimal n = digits (places 9 n) n
 
+-- "Each line ends in byte 10": a line, with the rest of a text behind it
+abbrev pub line : S.String → List ℕ → List ℕ → List ℕ
+line name value rest = word name ++ (value ++ (10 ∷ rest))
+
+-- whether bs begins with the text t
+unfoldable pub begins : List ℕ → List ℕ → Bool
+begins [] bs = true
+begins (x ∷ t) [] = false
+begins (x ∷ t) (b ∷ bs) = eqb x b && begins t bs
+
+-- whether bs is the text t
+abbrev pub same : List ℕ → List ℕ → Bool
+same t bs = begins t bs && eqb (length t) (length bs)
+
 -- the text t where there is room for it, and else nothing
 abbrev pub fitted : List ℕ → List ℕ → List ℕ
 fitted t before = cond (leb (length t) (length before)) t []
@@ -45,3 +59,7 @@ valueFrom n (d ∷ ds) = valueFrom (n * 10 + (d - 48)) ds
 -- the number that stands at place i of bs, as far as ten digits go, and how many digits it has: 0 and none where there is none
 abbrev pub numberAt : List ℕ → ℕ → Numeral
 numberAt bs i = record { value = valueFrom 0 (leading 10 (drop i bs)); length = length (leading 10 (drop i bs)) }
+
+-- the number at a place; one that is too great becomes another, whose text is another too
+abbrev pub fieldAt : List ℕ → ℕ → ℕ
+fieldAt bs i = numberAt bs i .value % 2 ^ 32

@@ -1,9 +1,10 @@
-// Words and decimal numbers as bytes: written at the front of an output, and read from a place on.
+// Words, decimal numbers and lines as bytes: written at the front of an output, and read from a place on.
 ghost use mathlib.Core.Path.{_≡_};
+ghost use mathlib.Core.List.{[], _∷_, _++_};
 ghost use Prim.Native.Nat.{ℕ, _+_, _-_, _^_, _≤_};
 ghost use lib.ListN.{length};
 ghost use Rattle.layout.specs.Layout.{over};
-ghost use Rattle.text.specs.Text.{places, decimal, fitted, numberAt};
+ghost use Rattle.text.specs.Text.{places, decimal, fitted, begins, numberAt, fieldAt};
 
 // The word at the front of `out`, where there is room for it. Answers its length, and 0 where there is none.
 pub fn put(word: &[u8], out: &mut [u8]) -> usize
@@ -58,6 +59,59 @@ pub fn put_decimal(x: u32, out: &mut [u8]) -> usize
     put(&digits[..length], out)
 }
 
+// A line with room for it: the name, the value, and byte 10.
+fn spell_line(name: &[u8], value: &[u8], out: &mut [u8]) -> usize
+    requires { ⌜ length (now name) + length (now value) + 1 ≤ length (now out) ⌝ }
+    ensures { λ r. ⌜ r ≡ length (now (name .entry) ++ (now (value .entry) ++ (10 ∷ []))) ⌝ }
+    ensures { λ r. ⌜ now (out .exit) ≡ over (now (name .entry) ++ (now (value .entry) ++ (10 ∷ []))) (now (out .entry)) ⌝ }
+{
+    let named = put(name, &mut out[..]);
+    let length = named + put(value, &mut out[named..]);
+    out[length] = 10;
+    length + 1
+}
+
+// The line of a name and a word behind it, at the front of `out`, where there is room for it. Answers its length, and 0 where there is none.
+pub fn put_line(name: &[u8], value: &[u8], out: &mut [u8]) -> usize
+    ensures { λ r. ⌜ r ≡ length (fitted (now (name .entry) ++ (now (value .entry) ++ (10 ∷ []))) (now (out .entry))) ⌝ }
+    ensures { λ r. ⌜ now (out .exit) ≡ over (fitted (now (name .entry) ++ (now (value .entry) ++ (10 ∷ []))) (now (out .entry))) (now (out .entry)) ⌝ }
+{
+    if out.len() < name.len() {
+        return 0;
+    }
+    if out.len() - name.len() <= value.len() {
+        return 0;
+    }
+    spell_line(name, value, out)
+}
+
+// The line of a name and x in decimal behind it, in the same way.
+pub fn put_number_line(name: &[u8], x: u32, out: &mut [u8]) -> usize
+    ensures { λ r. ⌜ r ≡ length (fitted (now (name .entry) ++ (decimal x ++ (10 ∷ []))) (now (out .entry))) ⌝ }
+    ensures { λ r. ⌜ now (out .exit) ≡ over (fitted (now (name .entry) ++ (decimal x ++ (10 ∷ []))) (now (out .entry))) (now (out .entry)) ⌝ }
+{
+    let mut digits = [0u8; 10];
+    let length = put_decimal(x, &mut digits);
+    put_line(name, &digits[..length], out)
+}
+
+// Whether the bytes begin with the text.
+pub fn begins(text: &[u8], bytes: &[u8]) -> bool
+    ensures { λ r. ⌜ r ≡ begins (now (text .entry)) (now (bytes .entry)) ⌝ }
+{
+    if bytes.len() < text.len() {
+        return false;
+    }
+    let mut i: usize = 0;
+    while i < text.len() {
+        if text[i] != bytes[i] {
+            return false;
+        }
+        i += 1;
+    }
+    true
+}
+
 // A number that was read, and how many digits it has.
 pub struct Numeral {
     pub value: usize,
@@ -88,4 +142,11 @@ pub fn number(bytes: &[u8], at: usize) -> Numeral
         i += 1;
     }
     Numeral { value, length: i }
+}
+
+// The number at place `at`, modulo 4,294,967,296. One that is too great becomes another, whose text is another too.
+pub fn field(bytes: &[u8], at: usize) -> u32
+    ensures { λ r. ⌜ r ≡ fieldAt (now (bytes .entry)) at ⌝ }
+{
+    (number(bytes, at).value % 4294967296) as u32
 }

@@ -10,10 +10,11 @@ use lib.ListN.{length, take, replicate}
 use lib.Seq.{length-take-le}
 use Rattle.layout.proofs.Fronts.{take-over}
 use Rattle.blocks.specs.Calls.{isLanes}
+use Rattle.text.specs.Text.{begins}
+use Rattle.text.proofs.Beginnings.{begins-within}
 use Rattle.files.specs.Header.{headerText}
-use Rattle.files.specs.Opening.{begins}
 use Rattle.files.proofs.Lines.{header-short}
-use Rattle.files.proofs.Tests.{begins-within, no-lanes, no-text, last-test}
+use Rattle.files.proofs.Tests.{no-lanes, no-text, last-test}
 use borrow.Author.Needs.{needs}
 use Rattle.files.proofs.is_file.Statement.{statement}
 use Rattle.files.proofs.is_file.Tie as tie

@@ -6,10 +6,11 @@ use native.Mathlib.Omega.{arith}
 use borrow.Author.Tests.{not-true, not-false}
 use lib.ListN.{length, drop}
 use Rattle.layout.proofs.Parts.{part-is}
+use Rattle.text.proofs.Beginnings.{begins-within}
 use Rattle.files.specs.Header.{headerText}
 use Rattle.files.specs.kernel.Fields.{headerIn}
 use Rattle.files.specs.Opening.{isFile, bodyIn}
-use Rattle.files.proofs.Tests.{begins-within, filed}
+use Rattle.files.proofs.Tests.{filed}
 use borrow.Author.Needs.{needs}
 use Rattle.files.proofs.open.Statement.{statement}
 use Rattle.files.proofs.open.Tie as tie

@@ -3,14 +3,14 @@
 -- opens-exactly).
 use mathlib.Core.Bool.{Bool, cond}
 use mathlib.Core.List.{List}
-use Prim.Native.Nat.{ℕ, _+_, _%_, _^_}
+use Prim.Native.Nat.{ℕ, _+_}
 use lib.Dec.{eqb}
 use Rattle.layout.specs.Layout.{at}
 use Rattle.modes.specs.declared.Initial.the-variants.{None, Number}
 use Rattle.modes.specs.declared.Mode.{Mode}
 use Rattle.modes.specs.declared.Mode.the-variants.{Plain, Sorted, Strict}
 use Rattle.order.specs.Order.{starting}
-use Rattle.text.specs.Text.{numberAt}
+use Rattle.text.specs.Text.{numberAt, fieldAt}
 use Rattle.files.specs.declared.heading.Header.{Header}
 
 -- behind `lanes=`, its digits, byte 10 and `mode=`
@@ -37,10 +37,6 @@ countAt bs = cond (isNone bs) (firstAt bs + 11) (firstAt bs + numberAt bs (first
 
 unfoldable pub bytesAt : List ℕ → ℕ
 bytesAt bs = countAt bs + numberAt bs (countAt bs) .length + 7
-
--- the number at a place; one that is too great becomes another, whose text is another too
-abbrev pub fieldAt : List ℕ → ℕ → ℕ
-fieldAt bs i = numberAt bs i .value % 2 ^ 32
 
 unfoldable pub modeIn : List ℕ → Mode
 modeIn bs = cond (isPlain bs) Plain (cond (isSorted bs) (Sorted (fieldAt bs (firstAt bs))) (cond (isNone bs) (Strict None) (Strict (Number (fieldAt bs (firstAt bs))))))

@@ -11,7 +11,7 @@ returns c =
     let n = b .before in
     let k = n .before in
     let s = k .before in
-    rw (← k .count-at .ensures .0, ← b .bytes-at .ensures, ← s .before .mode-in .ensures, ← s .starting .ensures, ← s .before .before .field-at .ensures, ← n .field-at2 .ensures, ← c .field-at3 .ensures)
+    rw (← k .count-at .ensures .0, ← b .bytes-at .ensures, ← s .before .mode-in .ensures, ← s .starting .ensures, ← s .before .before .field .ensures, ← n .field2 .ensures, ← c .field3 .ensures)
 
 pub header-in-spec : {M : Type 1} → statement M
 header-in-spec =

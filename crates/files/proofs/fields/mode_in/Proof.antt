@@ -20,7 +20,7 @@ returns-2 c =
     let t = c .before in
     let f = t .before .before in
     let e = f .before in
-    rw (← e .before .before .mode-at .ensures .0, ne-eqb _ 112 (λ q. e .if1 .left (e .before .byte-at .ensures ∙ q)), eq-eqb _ 111 (sym (t .before .byte-at2 .ensures) ∙ t .if2 .taken), ← f .first-at .ensures .0, ← c .field-at .ensures)
+    rw (← e .before .before .mode-at .ensures .0, ne-eqb _ 112 (λ q. e .if1 .left (e .before .byte-at .ensures ∙ q)), eq-eqb _ 111 (sym (t .before .byte-at2 .ensures) ∙ t .if2 .taken), ← f .first-at .ensures .0, ← c .field .ensures)
 
 returns-3 : tie.Need-returns-3
 unfolding modeIn
@@ -37,7 +37,7 @@ returns-4 c =
     let t = n .before .before in
     let f = t .before .before in
     let e = f .before in
-    rw (← e .before .before .mode-at .ensures .0, ne-eqb _ 112 (λ q. e .if1 .left (e .before .byte-at .ensures ∙ q)), ne-eqb _ 111 (λ q. t .if2 .left (t .before .byte-at2 .ensures ∙ q)), ← f .first-at .ensures .0, ne-eqb _ 110 (λ q. n .if3 .left (n .before .byte-at3 .ensures ∙ q)), ← c .field-at2 .ensures)
+    rw (← e .before .before .mode-at .ensures .0, ne-eqb _ 112 (λ q. e .if1 .left (e .before .byte-at .ensures ∙ q)), ne-eqb _ 111 (λ q. t .if2 .left (t .before .byte-at2 .ensures ∙ q)), ← f .first-at .ensures .0, ne-eqb _ 110 (λ q. n .if3 .left (n .before .byte-at3 .ensures ∙ q)), ← c .field2 .ensures)
 
 pub mode-in-spec : {M : Type 1} → statement M
 mode-in-spec =

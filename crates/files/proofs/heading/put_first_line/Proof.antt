@@ -5,7 +5,11 @@ use Prim.Native.Nat.{ℕ}
 use lib.ListN.{length}
 use Rattle.layout.specs.Layout.{over}
 use Rattle.modes.specs.declared.Initial.{Initial}
-use Rattle.files.specs.Header.{line, initialText}
+use Rattle.text.specs.Text.{line}
+use Rattle.files.specs.Header.{initialText}
+use Rattle.text.proofs.Lines.{put-whole}
+use Rattle.files.proofs.Lines.{first-line-short}
+use native.Mathlib.Omega.{arith}
 use borrow.Author.Needs.{needs}
 use Rattle.files.proofs.heading.put_first_line.Statement.{statement}
 use Rattle.files.proofs.heading.put_first_line.Tie as tie
@@ -16,7 +20,7 @@ returns c =
     let f = p .before .before .before .before .before .before in
     let s = f .before .before in
     let q = ap (λ (i : Initial). line "first=" (initialText i) []) (sym (p .before .before .before .before .enum-told .given .1) ∙ f .first-field .ensures) in
-    (p .put-word-line .ensures .0 ∙ ap length q, p .put-word-line .ensures .1 ∙ ap (λ (t : List ℕ). over t (s .args .out .now)) q)
+    put-whole (s .args .out .now) q (omega (arith, s .pre, first-line-short (s .args .mode))) (p .put-line .ensures)
 
 returns-2 : tie.Need-returns-2
 returns-2 c =
@@ -24,7 +28,7 @@ returns-2 c =
     let f = p .before .before .before .before .before .before in
     let s = f .before .before in
     let q = ap (λ (i : Initial). line "first=" (initialText i) []) (sym (p .before .before .before .before .start .given .1) ∙ f .first-field .ensures) in
-    (p .put-number-line .ensures .0 ∙ ap length q, p .put-number-line .ensures .1 ∙ ap (λ (t : List ℕ). over t (s .args .out .now)) q)
+    (p .number-line .ensures .0 ∙ ap length q, p .number-line .ensures .1 ∙ ap (λ (t : List ℕ). over t (s .args .out .now)) q)
 
 pub put-first-line-spec : {M : Type 1} → statement M
 put-first-line-spec =

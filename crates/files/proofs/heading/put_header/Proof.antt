@@ -8,9 +8,10 @@ use borrow.Rule.Slice.PartMut.{putMid}
 use Rattle.layout.specs.Layout.{over}
 use Rattle.layout.proofs.Parts.{part-length}
 use Rattle.layout.proofs.Fronts.{Front, front-length, front-put}
-use Rattle.text.specs.Text.{word, decimal}
-use Rattle.files.specs.Header.{line, settings}
-use Rattle.files.proofs.Lines.{number-line-short, settings-short, header-are, one-length, two-length, Three, three}
+use Rattle.text.specs.Text.{word, decimal, line}
+use Rattle.files.specs.Header.{settings}
+use Rattle.files.proofs.Lines.{settings-short, header-are, one-length, two-length, Three, three}
+use Rattle.text.proofs.Lines.{number-line-short}
 use borrow.Author.Needs.{needs}
 use Rattle.files.proofs.heading.put_header.Statement.{statement}
 use Rattle.files.proofs.heading.put_header.Tie as tie
@@ -32,44 +33,44 @@ kept c =
     let s = n .before .before .before in
     one-length (settings (s .args .header .lanes) (s .args .header .mode) []) (line "count=" (decimal (s .args .header .count)) []) (line "bytes=" (decimal (s .args .header .bytes)) []) (s .args .out .now) (n .put-settings .last .1 .1 .0) _ (room s) (n .put-settings .ensures .0) (n .put-settings .ensures .1)
 
-sub-put-number-line : tie.Need-sub-put-number-line
-sub-put-number-line c = omega (arith, short (c .before), kept (c .before), c .before .before .before .before .before .before .pre)
+sub-number-line : tie.Need-sub-number-line
+sub-number-line c = omega (arith, short (c .before), kept (c .before), c .before .before .before .before .before .before .pre)
 
-part-put-number-line-start : tie.Need-part-put-number-line-start
-part-put-number-line-start c = omega (arith, short (c .before), kept (c .before), c .before .before .before .before .before .before .pre)
+part-number-line-start : tie.Need-part-number-line-start
+part-number-line-start c = omega (arith, short (c .before), kept (c .before), c .before .before .before .before .before .before .pre)
 
-put-number-line-requires : tie.Need-put-number-line-requires
-put-number-line-requires c κs =
+number-line-requires : tie.Need-number-line-requires
+number-line-requires c κs =
     let k = c .before .before in
     omega (arith, short k, kept k, k .before .before .before .before .before .pre, part-length (k .before .before .put-settings .result) (k .before .before .put-settings .last .1 .1 .0))
 
 -- behind the count
-short′ : (c : tie.After-slice-known3) → c .before .before .put-number-line .result ≤ 17
-short′ c = omega (arith, c .before .before .put-number-line .ensures .0, number-line-short (word "count=") (c .before .before .before .before .before .before .before .before .before .before .args .header .count))
+short′ : (c : tie.After-slice-known3) → c .before .before .number-line .result ≤ 17
+short′ c = omega (arith, c .before .before .number-line .ensures .0, number-line-short (word "count=") (c .before .before .before .before .before .before .before .before .before .before .args .header .count))
 
-kept′ : (c : tie.After-slice-known3) → length (putMid (c .before .before .before .before .before .before .before .put-settings .result) (length (c .before .before .before .before .before .before .before .put-settings .last .1 .1 .0) - c .before .before .before .before .before .before .before .put-settings .result) (c .before .before .before .before .before .before .before .put-settings .last .1 .1 .0) (c .before .before .put-number-line .last .1 .1 .0)) ≡ length (c .before .before .before .before .before .before .before .before .before .before .args .out .now)
+kept′ : (c : tie.After-slice-known3) → length (putMid (c .before .before .before .before .before .before .before .put-settings .result) (length (c .before .before .before .before .before .before .before .put-settings .last .1 .1 .0) - c .before .before .before .before .before .before .before .put-settings .result) (c .before .before .before .before .before .before .before .put-settings .last .1 .1 .0) (c .before .before .number-line .last .1 .1 .0)) ≡ length (c .before .before .before .before .before .before .before .before .before .before .args .out .now)
 kept′ c =
     let m = c .before .before in
     let n = m .before .before .before .before .before in
     let s = n .before .before .before in
     two-length (settings (s .args .header .lanes) (s .args .header .mode) []) (line "count=" (decimal (s .args .header .count)) []) (line "bytes=" (decimal (s .args .header .bytes)) []) (s .args .out .now) (n .put-settings .last .1 .1 .0) _ (room s) (n .put-settings .ensures .0) (n .put-settings .ensures .1)
-    _ (m .put-number-line .last .1 .1 .0) (m .put-number-line .ensures .0) (m .put-number-line .ensures .1)
+    _ (m .number-line .last .1 .1 .0) (m .number-line .ensures .0) (m .number-line .ensures .1)
 
 add-second : tie.Need-add-second
 add-second c = omega (arith, short (c .before .before .before .before .before), short′ c)
 
-sub-put-number-line-2 : tie.Need-sub-put-number-line-2
-sub-put-number-line-2 c =
+sub-number-line-2 : tie.Need-sub-number-line-2
+sub-number-line-2 c =
     let k = c .before in
     omega (arith, short (k .before .before .before .before .before), short′ k, kept′ k, k .before .before .before .before .before .before .before .before .before .before .pre)
 
-part-put-number-line-start-2 : tie.Need-part-put-number-line-start-2
-part-put-number-line-start-2 c =
+part-number-line-start-2 : tie.Need-part-number-line-start-2
+part-number-line-start-2 c =
     let k = c .before in
     omega (arith, short (k .before .before .before .before .before), short′ k, kept′ k, k .before .before .before .before .before .before .before .before .before .before .pre)
 
-put-number-line-requires-2 : tie.Need-put-number-line-requires-2
-put-number-line-requires-2 c κs =
+number-line-requires-2 : tie.Need-number-line-requires-2
+number-line-requires-2 c κs =
     let k = c .before .before in
     let n = k .before .before .before .before .before .before .before in
     omega (
@@ -78,24 +79,24 @@ put-number-line-requires-2 c κs =
       short′ k,
       kept′ k,
       k .before .before .before .before .before .before .before .before .before .before .pre,
-      part-length (n .put-settings .result + k .before .before .put-number-line .result) (putMid (n .put-settings .result) (length (n .put-settings .last .1 .1 .0) - n .put-settings .result) (n .put-settings .last .1 .1 .0) (k .before .before .put-number-line .last .1 .1 .0)),
+      part-length (n .put-settings .result + k .before .before .number-line .result) (putMid (n .put-settings .result) (length (n .put-settings .last .1 .1 .0) - n .put-settings .result) (n .put-settings .last .1 .1 .0) (k .before .before .number-line .last .1 .1 .0)),
     )
 
 -- all three
-there : (c : tie.After-slice-known4) → Three (settings (c .before .before .before .before .before .before .before .before .before .before .before .before .before .before .before .args .header .lanes) (c .before .before .before .before .before .before .before .before .before .before .before .before .before .before .before .args .header .mode) []) (line "count=" (decimal (c .before .before .before .before .before .before .before .before .before .before .before .before .before .before .before .args .header .count)) []) (line "bytes=" (decimal (c .before .before .before .before .before .before .before .before .before .before .before .before .before .before .before .args .header .bytes)) []) (c .before .before .before .before .before .before .before .before .before .before .before .before .before .before .before .args .out .now) (c .before .before .before .before .before .before .before .before .before .before .before .before .put-settings .result + c .before .before .before .before .before .before .before .put-number-line .result + c .before .before .put-number-line2 .result) (putMid (c .before .before .before .before .before .before .before .before .before .before .before .before .put-settings .result + c .before .before .before .before .before .before .before .put-number-line .result) (length (putMid (c .before .before .before .before .before .before .before .before .before .before .before .before .put-settings .result) (length (c .before .before .before .before .before .before .before .before .before .before .before .before .put-settings .last .1 .1 .0) - c .before .before .before .before .before .before .before .before .before .before .before .before .put-settings .result) (c .before .before .before .before .before .before .before .before .before .before .before .before .put-settings .last .1 .1 .0) (c .before .before .before .before .before .before .before .put-number-line .last .1 .1 .0)) - (c .before .before .before .before .before .before .before .before .before .before .before .before .put-settings .result + c .before .before .before .before .before .before .before .put-number-line .result)) (putMid (c .before .before .before .before .before .before .before .before .before .before .before .before .put-settings .result) (length (c .before .before .before .before .before .before .before .before .before .before .before .before .put-settings .last .1 .1 .0) - c .before .before .before .before .before .before .before .before .before .before .before .before .put-settings .result) (c .before .before .before .before .before .before .before .before .before .before .before .before .put-settings .last .1 .1 .0) (c .before .before .before .before .before .before .before .put-number-line .last .1 .1 .0)) (c .before .before .put-number-line2 .last .1 .1 .0))
+there : (c : tie.After-slice-known4) → Three (settings (c .before .before .before .before .before .before .before .before .before .before .before .before .before .before .before .args .header .lanes) (c .before .before .before .before .before .before .before .before .before .before .before .before .before .before .before .args .header .mode) []) (line "count=" (decimal (c .before .before .before .before .before .before .before .before .before .before .before .before .before .before .before .args .header .count)) []) (line "bytes=" (decimal (c .before .before .before .before .before .before .before .before .before .before .before .before .before .before .before .args .header .bytes)) []) (c .before .before .before .before .before .before .before .before .before .before .before .before .before .before .before .args .out .now) (c .before .before .before .before .before .before .before .before .before .before .before .before .put-settings .result + c .before .before .before .before .before .before .before .number-line .result + c .before .before .number-line2 .result) (putMid (c .before .before .before .before .before .before .before .before .before .before .before .before .put-settings .result + c .before .before .before .before .before .before .before .number-line .result) (length (putMid (c .before .before .before .before .before .before .before .before .before .before .before .before .put-settings .result) (length (c .before .before .before .before .before .before .before .before .before .before .before .before .put-settings .last .1 .1 .0) - c .before .before .before .before .before .before .before .before .before .before .before .before .put-settings .result) (c .before .before .before .before .before .before .before .before .before .before .before .before .put-settings .last .1 .1 .0) (c .before .before .before .before .before .before .before .number-line .last .1 .1 .0)) - (c .before .before .before .before .before .before .before .before .before .before .before .before .put-settings .result + c .before .before .before .before .before .before .before .number-line .result)) (putMid (c .before .before .before .before .before .before .before .before .before .before .before .before .put-settings .result) (length (c .before .before .before .before .before .before .before .before .before .before .before .before .put-settings .last .1 .1 .0) - c .before .before .before .before .before .before .before .before .before .before .before .before .put-settings .result) (c .before .before .before .before .before .before .before .before .before .before .before .before .put-settings .last .1 .1 .0) (c .before .before .before .before .before .before .before .number-line .last .1 .1 .0)) (c .before .before .number-line2 .last .1 .1 .0))
 there c =
     let f = c .before .before in
     let m = f .before .before .before .before .before in
     let n = m .before .before .before .before .before in
     let s = n .before .before .before in
     three (settings (s .args .header .lanes) (s .args .header .mode) []) (line "count=" (decimal (s .args .header .count)) []) (line "bytes=" (decimal (s .args .header .bytes)) []) (s .args .out .now) (n .put-settings .last .1 .1 .0) _ (room s) (n .put-settings .ensures .0) (n .put-settings .ensures .1)
-    _ (m .put-number-line .last .1 .1 .0) (m .put-number-line .ensures .0) (m .put-number-line .ensures .1) _ (f .put-number-line2 .last .1 .1 .0) (f .put-number-line2 .ensures .0) (f .put-number-line2 .ensures .1)
+    _ (m .number-line .last .1 .1 .0) (m .number-line .ensures .0) (m .number-line .ensures .1) _ (f .number-line2 .last .1 .1 .0) (f .number-line2 .ensures .0) (f .number-line2 .ensures .1)
 
 -- and they are 80 bytes at most
-fewer : (c : tie.After-slice-known4) → c .before .before .before .before .before .before .before .before .before .before .before .before .put-settings .result + c .before .before .before .before .before .before .before .put-number-line .result + c .before .before .put-number-line2 .result ≤ 80
+fewer : (c : tie.After-slice-known4) → c .before .before .before .before .before .before .before .before .before .before .before .before .put-settings .result + c .before .before .before .before .before .before .before .number-line .result + c .before .before .number-line2 .result ≤ 80
 fewer c =
     let f = c .before .before in
-    omega (arith, short (f .before .before .before .before .before .before .before .before), short′ (f .before .before .before), f .put-number-line2 .ensures .0, number-line-short (word "bytes=") (c .before .before .before .before .before .before .before .before .before .before .before .before .before .before .before .args .header .bytes))
+    omega (arith, short (f .before .before .before .before .before .before .before .before), short′ (f .before .before .before), f .number-line2 .ensures .0, number-line-short (word "bytes=") (c .before .before .before .before .before .before .before .before .before .before .before .before .before .before .before .args .header .bytes))
 
 add-third : tie.Need-add-third
 add-third c = omega (arith, fewer c)
@@ -107,7 +108,7 @@ add-result : tie.Need-add-result
 add-result c = omega (arith, fewer c)
 
 -- with byte 10 behind them
-whole : (c : tie.After-slice-known4) → Front (((settings (c .before .before .before .before .before .before .before .before .before .before .before .before .before .before .before .args .header .lanes) (c .before .before .before .before .before .before .before .before .before .before .before .before .before .before .before .args .header .mode) []) ++ ((line "count=" (decimal (c .before .before .before .before .before .before .before .before .before .before .before .before .before .before .before .args .header .count)) []) ++ (line "bytes=" (decimal (c .before .before .before .before .before .before .before .before .before .before .before .before .before .before .before .args .header .bytes)) []))) ++ (10 ∷ [])) (c .before .before .before .before .before .before .before .before .before .before .before .before .before .before .before .args .out .now) (set (putMid (c .before .before .before .before .before .before .before .before .before .before .before .before .put-settings .result + c .before .before .before .before .before .before .before .put-number-line .result) (length (putMid (c .before .before .before .before .before .before .before .before .before .before .before .before .put-settings .result) (length (c .before .before .before .before .before .before .before .before .before .before .before .before .put-settings .last .1 .1 .0) - c .before .before .before .before .before .before .before .before .before .before .before .before .put-settings .result) (c .before .before .before .before .before .before .before .before .before .before .before .before .put-settings .last .1 .1 .0) (c .before .before .before .before .before .before .before .put-number-line .last .1 .1 .0)) - (c .before .before .before .before .before .before .before .before .before .before .before .before .put-settings .result + c .before .before .before .before .before .before .before .put-number-line .result)) (putMid (c .before .before .before .before .before .before .before .before .before .before .before .before .put-settings .result) (length (c .before .before .before .before .before .before .before .before .before .before .before .before .put-settings .last .1 .1 .0) - c .before .before .before .before .before .before .before .before .before .before .before .before .put-settings .result) (c .before .before .before .before .before .before .before .before .before .before .before .before .put-settings .last .1 .1 .0) (c .before .before .before .before .before .before .before .put-number-line .last .1 .1 .0)) (c .before .before .put-number-line2 .last .1 .1 .0)) (c .before .before .before .before .before .before .before .before .before .before .before .before .put-settings .result + c .before .before .before .before .before .before .before .put-number-line .result + c .before .before .put-number-line2 .result) 10)
+whole : (c : tie.After-slice-known4) → Front (((settings (c .before .before .before .before .before .before .before .before .before .before .before .before .before .before .before .args .header .lanes) (c .before .before .before .before .before .before .before .before .before .before .before .before .before .before .before .args .header .mode) []) ++ ((line "count=" (decimal (c .before .before .before .before .before .before .before .before .before .before .before .before .before .before .before .args .header .count)) []) ++ (line "bytes=" (decimal (c .before .before .before .before .before .before .before .before .before .before .before .before .before .before .before .args .header .bytes)) []))) ++ (10 ∷ [])) (c .before .before .before .before .before .before .before .before .before .before .before .before .before .before .before .args .out .now) (set (putMid (c .before .before .before .before .before .before .before .before .before .before .before .before .put-settings .result + c .before .before .before .before .before .before .before .number-line .result) (length (putMid (c .before .before .before .before .before .before .before .before .before .before .before .before .put-settings .result) (length (c .before .before .before .before .before .before .before .before .before .before .before .before .put-settings .last .1 .1 .0) - c .before .before .before .before .before .before .before .before .before .before .before .before .put-settings .result) (c .before .before .before .before .before .before .before .before .before .before .before .before .put-settings .last .1 .1 .0) (c .before .before .before .before .before .before .before .number-line .last .1 .1 .0)) - (c .before .before .before .before .before .before .before .before .before .before .before .before .put-settings .result + c .before .before .before .before .before .before .before .number-line .result)) (putMid (c .before .before .before .before .before .before .before .before .before .before .before .before .put-settings .result) (length (c .before .before .before .before .before .before .before .before .before .before .before .before .put-settings .last .1 .1 .0) - c .before .before .before .before .before .before .before .before .before .before .before .before .put-settings .result) (c .before .before .before .before .before .before .before .before .before .before .before .before .put-settings .last .1 .1 .0) (c .before .before .before .before .before .before .before .number-line .last .1 .1 .0)) (c .before .before .number-line2 .last .1 .1 .0)) (c .before .before .before .before .before .before .before .before .before .before .before .before .put-settings .result + c .before .before .before .before .before .before .before .number-line .result + c .before .before .number-line2 .result) 10)
 whole c = front-put (there c .text) _ (sym (there c .answer)) 10 (omega (arith, fewer c, c .before .before .before .before .before .before .before .before .before .before .before .before .before .before .before .pre))
 
 same-length : tie.Need-same-length
@@ -127,16 +128,16 @@ put-header-spec =
     (tie.spec
     put-settings-requires
     (search needs)
-    sub-put-number-line
-    part-put-number-line-start
+    sub-number-line
+    part-number-line-start
     (search needs)
-    put-number-line-requires
+    number-line-requires
     add-second
     (search needs)
-    sub-put-number-line-2
-    part-put-number-line-start-2
+    sub-number-line-2
+    part-number-line-start-2
     (search needs)
-    put-number-line-requires-2
+    number-line-requires-2
     add-third
     slice-write-out
     add-result

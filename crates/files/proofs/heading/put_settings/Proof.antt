@@ -7,9 +7,10 @@ use lib.ListN.{length}
 use borrow.Rule.Slice.PartMut.{putMid}
 use Rattle.layout.specs.Layout.{over}
 use Rattle.layout.proofs.Parts.{part-length}
-use Rattle.text.specs.Text.{word, decimal}
-use Rattle.files.specs.Header.{line, modeWord, firstText, settings}
-use Rattle.files.proofs.Lines.{number-line-short, mode-line-short, first-line-short, settings-are, one-length, two-length, Three, three}
+use Rattle.text.specs.Text.{word, decimal, line}
+use Rattle.files.specs.Header.{modeWord, firstText, settings}
+use Rattle.files.proofs.Lines.{mode-line-short, first-line-short, settings-are, one-length, two-length, Three, three}
+use Rattle.text.proofs.Lines.{number-line-short}
 use borrow.Author.Needs.{needs}
 use Rattle.files.proofs.heading.put_settings.Statement.{statement}
 use Rattle.files.proofs.heading.put_settings.Tie as tie
@@ -18,18 +19,18 @@ use Rattle.files.proofs.heading.put_settings.Tie as tie
 room : (s : tie.Start) → length (line "lanes=" (decimal (s .args .lanes)) []) + length (line "mode=" (modeWord (s .args .mode)) []) + length (line "first=" (firstText (s .args .mode)) []) ≤ length (s .args .out .now)
 room s = omega (arith, s .pre, number-line-short (word "lanes=") (s .args .lanes), mode-line-short (s .args .mode), first-line-short (s .args .mode))
 
-put-number-line-requires : tie.Need-put-number-line-requires
-put-number-line-requires c κs = omega (arith, c .before .before .before .pre)
+number-line-requires : tie.Need-number-line-requires
+number-line-requires c κs = omega (arith, c .before .before .before .pre)
 
 -- behind the first
-short : (c : tie.After-slice-known2) → c .before .before .put-number-line .result ≤ 17
-short c = omega (arith, c .before .before .put-number-line .ensures .0, number-line-short (word "lanes=") (c .before .before .before .before .before .before .args .lanes))
+short : (c : tie.After-slice-known2) → c .before .before .number-line .result ≤ 17
+short c = omega (arith, c .before .before .number-line .ensures .0, number-line-short (word "lanes=") (c .before .before .before .before .before .before .args .lanes))
 
-kept : (c : tie.After-slice-known2) → length (c .before .before .put-number-line .last .1 .1 .0) ≡ length (c .before .before .before .before .before .before .args .out .now)
+kept : (c : tie.After-slice-known2) → length (c .before .before .number-line .last .1 .1 .0) ≡ length (c .before .before .before .before .before .before .args .out .now)
 kept c =
     let n = c .before .before in
     let s = n .before .before .before .before in
-    one-length (line "lanes=" (decimal (s .args .lanes)) []) (line "mode=" (modeWord (s .args .mode)) []) (line "first=" (firstText (s .args .mode)) []) (s .args .out .now) (n .put-number-line .last .1 .1 .0) _ (room s) (n .put-number-line .ensures .0) (n .put-number-line .ensures .1)
+    one-length (line "lanes=" (decimal (s .args .lanes)) []) (line "mode=" (modeWord (s .args .mode)) []) (line "first=" (firstText (s .args .mode)) []) (s .args .out .now) (n .number-line .last .1 .1 .0) _ (room s) (n .number-line .ensures .0) (n .number-line .ensures .1)
 
 sub-put-mode-line : tie.Need-sub-put-mode-line
 sub-put-mode-line c = omega (arith, short c, kept c, c .before .before .before .before .before .before .pre)
@@ -40,18 +41,18 @@ part-put-mode-line-start c = omega (arith, short c, kept c, c .before .before .b
 put-mode-line-requires : tie.Need-put-mode-line-requires
 put-mode-line-requires c κs =
     let k = c .before in
-    omega (arith, short k, kept k, k .before .before .before .before .before .before .pre, part-length (k .before .before .put-number-line .result) (k .before .before .put-number-line .last .1 .1 .0))
+    omega (arith, short k, kept k, k .before .before .before .before .before .before .pre, part-length (k .before .before .number-line .result) (k .before .before .number-line .last .1 .1 .0))
 
 -- behind the second
 short′ : (c : tie.After-slice-known3) → c .before .before .put-mode-line .result ≤ 12
 short′ c = omega (arith, c .before .before .put-mode-line .ensures .0, mode-line-short (c .before .before .before .before .before .before .before .before .before .before .args .mode))
 
-kept′ : (c : tie.After-slice-known3) → length (putMid (c .before .before .before .before .before .before .put-number-line .result) (length (c .before .before .before .before .before .before .put-number-line .last .1 .1 .0) - c .before .before .before .before .before .before .put-number-line .result) (c .before .before .before .before .before .before .put-number-line .last .1 .1 .0) (c .before .before .put-mode-line .last .1 .0)) ≡ length (c .before .before .before .before .before .before .before .before .before .before .args .out .now)
+kept′ : (c : tie.After-slice-known3) → length (putMid (c .before .before .before .before .before .before .number-line .result) (length (c .before .before .before .before .before .before .number-line .last .1 .1 .0) - c .before .before .before .before .before .before .number-line .result) (c .before .before .before .before .before .before .number-line .last .1 .1 .0) (c .before .before .put-mode-line .last .1 .0)) ≡ length (c .before .before .before .before .before .before .before .before .before .before .args .out .now)
 kept′ c =
     let m = c .before .before in
     let n = m .before .before .before .before in
     let s = n .before .before .before .before in
-    two-length (line "lanes=" (decimal (s .args .lanes)) []) (line "mode=" (modeWord (s .args .mode)) []) (line "first=" (firstText (s .args .mode)) []) (s .args .out .now) (n .put-number-line .last .1 .1 .0) _ (room s) (n .put-number-line .ensures .0) (n .put-number-line .ensures .1)
+    two-length (line "lanes=" (decimal (s .args .lanes)) []) (line "mode=" (modeWord (s .args .mode)) []) (line "first=" (firstText (s .args .mode)) []) (s .args .out .now) (n .number-line .last .1 .1 .0) _ (room s) (n .number-line .ensures .0) (n .number-line .ensures .1)
     _ (m .put-mode-line .last .1 .0) (m .put-mode-line .ensures .0) (m .put-mode-line .ensures .1)
 
 add-second : tie.Need-add-second
@@ -73,17 +74,17 @@ put-first-line-requires c κs =
       short′ k,
       kept′ k,
       k .before .before .before .before .before .before .before .before .before .before .pre,
-      part-length (n .put-number-line .result + k .before .before .put-mode-line .result) (putMid (n .put-number-line .result) (length (n .put-number-line .last .1 .1 .0) - n .put-number-line .result) (n .put-number-line .last .1 .1 .0) (k .before .before .put-mode-line .last .1 .0)),
+      part-length (n .number-line .result + k .before .before .put-mode-line .result) (putMid (n .number-line .result) (length (n .number-line .last .1 .1 .0) - n .number-line .result) (n .number-line .last .1 .1 .0) (k .before .before .put-mode-line .last .1 .0)),
     )
 
 -- all three
-there : (c : tie.After-slice-known4) → Three (line "lanes=" (decimal (c .before .before .before .before .before .before .before .before .before .before .before .before .before .before .args .lanes)) []) (line "mode=" (modeWord (c .before .before .before .before .before .before .before .before .before .before .before .before .before .before .args .mode)) []) (line "first=" (firstText (c .before .before .before .before .before .before .before .before .before .before .before .before .before .before .args .mode)) []) (c .before .before .before .before .before .before .before .before .before .before .before .before .before .before .args .out .now) (c .before .before .before .before .before .before .before .before .before .before .put-number-line .result + c .before .before .before .before .before .before .put-mode-line .result + c .before .before .put-first-line .result) (putMid (c .before .before .before .before .before .before .before .before .before .before .put-number-line .result + c .before .before .before .before .before .before .put-mode-line .result) (length (putMid (c .before .before .before .before .before .before .before .before .before .before .put-number-line .result) (length (c .before .before .before .before .before .before .before .before .before .before .put-number-line .last .1 .1 .0) - c .before .before .before .before .before .before .before .before .before .before .put-number-line .result) (c .before .before .before .before .before .before .before .before .before .before .put-number-line .last .1 .1 .0) (c .before .before .before .before .before .before .put-mode-line .last .1 .0)) - (c .before .before .before .before .before .before .before .before .before .before .put-number-line .result + c .before .before .before .before .before .before .put-mode-line .result)) (putMid (c .before .before .before .before .before .before .before .before .before .before .put-number-line .result) (length (c .before .before .before .before .before .before .before .before .before .before .put-number-line .last .1 .1 .0) - c .before .before .before .before .before .before .before .before .before .before .put-number-line .result) (c .before .before .before .before .before .before .before .before .before .before .put-number-line .last .1 .1 .0) (c .before .before .before .before .before .before .put-mode-line .last .1 .0)) (c .before .before .put-first-line .last .1 .0))
+there : (c : tie.After-slice-known4) → Three (line "lanes=" (decimal (c .before .before .before .before .before .before .before .before .before .before .before .before .before .before .args .lanes)) []) (line "mode=" (modeWord (c .before .before .before .before .before .before .before .before .before .before .before .before .before .before .args .mode)) []) (line "first=" (firstText (c .before .before .before .before .before .before .before .before .before .before .before .before .before .before .args .mode)) []) (c .before .before .before .before .before .before .before .before .before .before .before .before .before .before .args .out .now) (c .before .before .before .before .before .before .before .before .before .before .number-line .result + c .before .before .before .before .before .before .put-mode-line .result + c .before .before .put-first-line .result) (putMid (c .before .before .before .before .before .before .before .before .before .before .number-line .result + c .before .before .before .before .before .before .put-mode-line .result) (length (putMid (c .before .before .before .before .before .before .before .before .before .before .number-line .result) (length (c .before .before .before .before .before .before .before .before .before .before .number-line .last .1 .1 .0) - c .before .before .before .before .before .before .before .before .before .before .number-line .result) (c .before .before .before .before .before .before .before .before .before .before .number-line .last .1 .1 .0) (c .before .before .before .before .before .before .put-mode-line .last .1 .0)) - (c .before .before .before .before .before .before .before .before .before .before .number-line .result + c .before .before .before .before .before .before .put-mode-line .result)) (putMid (c .before .before .before .before .before .before .before .before .before .before .number-line .result) (length (c .before .before .before .before .before .before .before .before .before .before .number-line .last .1 .1 .0) - c .before .before .before .before .before .before .before .before .before .before .number-line .result) (c .before .before .before .before .before .before .before .before .before .before .number-line .last .1 .1 .0) (c .before .before .before .before .before .before .put-mode-line .last .1 .0)) (c .before .before .put-first-line .last .1 .0))
 there c =
     let f = c .before .before in
     let m = f .before .before .before .before in
     let n = m .before .before .before .before in
     let s = n .before .before .before .before in
-    three (line "lanes=" (decimal (s .args .lanes)) []) (line "mode=" (modeWord (s .args .mode)) []) (line "first=" (firstText (s .args .mode)) []) (s .args .out .now) (n .put-number-line .last .1 .1 .0) _ (room s) (n .put-number-line .ensures .0) (n .put-number-line .ensures .1)
+    three (line "lanes=" (decimal (s .args .lanes)) []) (line "mode=" (modeWord (s .args .mode)) []) (line "first=" (firstText (s .args .mode)) []) (s .args .out .now) (n .number-line .last .1 .1 .0) _ (room s) (n .number-line .ensures .0) (n .number-line .ensures .1)
     _ (m .put-mode-line .last .1 .0) (m .put-mode-line .ensures .0) (m .put-mode-line .ensures .1) _ (f .put-first-line .last .1 .0) (f .put-first-line .ensures .0) (f .put-first-line .ensures .1)
 
 add-result : tie.Need-add-result
@@ -104,7 +105,7 @@ put-settings-spec =
     tie.close
     (tie.spec
     (search needs)
-    put-number-line-requires
+    number-line-requires
     sub-put-mode-line
     part-put-mode-line-start
     (search needs)

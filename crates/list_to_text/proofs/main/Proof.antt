@@ -1,0 +1,46 @@
+-- What goes out lies within the output.
+use mathlib.Core.Path.{sym, _≡_}
+use Prim.Native.Nat.{_≤_}
+use native.Mathlib.Omega.{arith}
+use lib.ListN.{length, take}
+use lib.Seq.{length-take-le}
+use Rattle.blocks.specs.declared.refusal.Refusal.the-variants.{Accepted}
+use Rattle.programs.specs.Programs.{listToText}
+use Rattle.programs.proofs.Theorems.{text-short, not-four, answer-within}
+use borrow.Author.Needs.{needs}
+use Rattle.list_to_text.proofs.main.Statement.{statement}
+use Rattle.list_to_text.proofs.main.Tie as tie
+
+within : (c : tie.After-list-to-text) → c .list-to-text .result .length ≤ length (c .list-to-text .last .1 .0)
+within c =
+    let i = c .before .before .before .before in
+    let w = answer-within (listToText (take (i .read-input .result) (i .read-input .last .0))) _ (c .list-to-text .ensures .0) in
+    omega (arith, w, c .list-to-text .kept)
+
+-- and is all of it: 4 is not the answer here
+all-of-it : (c : tie.After-list-to-text) → c .list-to-text .result .refusal ≡ Accepted
+all-of-it c =
+    let i = c .before .before .before .before in
+    let input = take (i .read-input .result) (i .read-input .last .0) in
+    not-four (listToText input) _ (text-short input) (c .list-to-text .ensures .0)
+
+array-share-prefix-output : tie.Need-array-share-prefix-output
+array-share-prefix-output c = within (c .before)
+
+slice-aggregate-write-output : tie.Need-slice-aggregate-write-output
+slice-aggregate-write-output c = sym (length-take-le _ (c .before .before .list-to-text .last .1 .0) (within (c .before .before)))
+
+pub main-spec : {M : Type 1} → statement M
+main-spec =
+    tie.close
+    (tie.spec
+    (search needs)
+    (search needs)
+    (search needs)
+    (search needs)
+    (search needs)
+    (search needs)
+    array-share-prefix-output
+    slice-aggregate-write-output
+    (search needs)
+    (search needs))

@@ -1,0 +1,4 @@
+pub mod ValueLines
+pub mod Found
+pub mod Outcomes
+pub mod Theorems

@@ -1,0 +1,176 @@
+-- The ways out of the two programs.
+use mathlib.Core.Path.{_≡_, refl, sym, _∙_, ap}
+use mathlib.Core.Bool.{Bool, true, false}
+use mathlib.Core.List.{List}
+use Prim.Native.Nat.{ℕ, _-_, _≤_, _<_}
+use native.Mathlib.Omega.{arith}
+use borrow.Author.Tests.{lt-ltb, le-ltb}
+use lib.ListN.{length, take, drop}
+use borrow.Rule.Slice.PartMut.{midOf}
+use lib.Seq.{take-all}
+use Rattle.layout.specs.Layout.{over}
+use Rattle.layout.proofs.Fronts.{take-over}
+use Rattle.layout.proofs.Parts.{part-is}
+use Rattle.layout.proofs.Widths.{and-both}
+use Rattle.modes.specs.declared.Mode.{Mode}
+use Rattle.blocks.specs.declared.Answer.{Answer}
+use Rattle.blocks.specs.declared.refusal.Refusal.{Refusal}
+use Rattle.blocks.specs.declared.refusal.Refusal.the-variants.{Accepted, TooMany, BadHeader}
+use Rattle.blocks.specs.Refusals.{accepted}
+use Rattle.blocks.specs.Calls.{isLanes}
+use Rattle.blocks.proofs.Tests.{apart, lanes-of}
+use Rattle.order.specs.Order.{most}
+use Rattle.bodies.proofs.Tests.{both}
+use Rattle.bodies.proofs.Sizes.{length-list}
+use Rattle.lists.specs.Calls.{measureRefusal, measureAnswer}
+use Rattle.lists.proofs.Accepts.{Readable, read-exactly}
+use Rattle.text.specs.Text.{same}
+use Rattle.text.proofs.Beginnings.{begins-within}
+use Rattle.files.specs.declared.Packing.{Packing}
+use Rattle.files.specs.Opening.{bodyIn, headerRefusal, isSettings, settingsIn, noSettings, settingsAnswer}
+use Rattle.files.specs.kernel.Fields.{headerIn}
+use Rattle.files.specs.Calls.{listIn, readRefusalOf, readAnswerOf, readOutputOf, fileFor, writeAnswerOf, writeOutputOf}
+use Rattle.files.proofs.Theorems.{settings-sets}
+use Rattle.programs.specs.declared.lines.Lines.{Lines}
+use Rattle.programs.specs.Lines.{valueLines}
+use Rattle.programs.specs.kernel.Lines.{linesIn}
+use Rattle.programs.specs.Programs.{refusedLine, output, listToText, isText, valuesIn, restIn, textToList, outAnswer, outLeft}
+
+-- what was handed out for one text was handed out for another that is equal
+pub out-is : {t u : List ℕ} → t ≡ u → (before : List ℕ) {r : Answer} {after : List ℕ} → (r ≡ outAnswer t (length before)) × (after ≡ outLeft t before) → (r ≡ outAnswer u (length before)) × (after ≡ outLeft u before)
+out-is {t} {u} e before {r} {after} h = (h .0 ∙ ap (λ (x : List ℕ). outAnswer x (length before)) e, h .1 ∙ ap (λ (x : List ℕ). outLeft x before) e)
+
+-- from a file
+
+module _ (file : List ℕ) where
+  pub file-too-long : 65536 < length file → refusedLine BadHeader ≡ listToText file
+  unfolding listToText
+  file-too-long h = sym (rw (lt-ltb 65536 (length file) h))
+
+  module _ (fits : length file ≤ 65536) where
+    pub file-refused : (k : Refusal) → k ≡ readRefusalOf file most → accepted k ≡ false → refusedLine k ≡ listToText file
+    unfolding listToText
+    file-refused k e h =
+        let f : accepted (readRefusalOf file most) ≡ false = ap accepted (sym e) ∙ h in
+        sym (rw (le-ltb 65536 (length file) fits, f, e))
+
+    pub file-accepted : accepted (readRefusalOf file most) ≡ true → valueLines (listIn file) ≡ listToText file
+    unfolding listToText
+    file-accepted h = sym (rw (le-ltb 65536 (length file) fits, h))
+
+  -- the list that was read
+  module _ (h : accepted (readRefusalOf file most) ≡ true) where
+    readable : Readable (headerIn file .lanes) (headerIn file .mode) (headerIn file .count) (bodyIn file) most
+    readable = read-exactly (headerIn file .lanes) (headerIn file .mode) (headerIn file .count) (bodyIn file) most .0 (both (headerRefusal file) _ h .1)
+
+    pub list-length : length (listIn file) ≡ headerIn file .count
+    list-length = length-list (headerIn file .lanes) (lanes-of (headerIn file .lanes) (readable .lanes) .0) (headerIn file .mode) (headerIn file .count) (bodyIn file)
+
+    pub list-few : length (listIn file) ≤ most
+    list-few = omega (arith, list-length, readable .few)
+
+    pub list-told : (before : List ℕ) (r : Answer) (after : List ℕ) → r ≡ readAnswerOf file (length before) → after ≡ readOutputOf file before → length before ≡ most
+        → (r .length ≡ length (listIn file)) × (take (r .length) after ≡ listIn file)
+    list-told before r after a o room =
+        let g : accepted (readRefusalOf file (length before)) ≡ true = rw room h in
+        let n : r .length ≡ length (listIn file) = ap (λ (t : Answer). t .length) a ∙ rw g (sym list-length) in
+        let w : after ≡ over (listIn file) before = o ∙ rw g in
+        (n, ap (take (r .length)) w ∙ take-over (r .length) (listIn file) before (sym n))
+
+-- the values that were read, in a place that is long enough for them
+pub values-kept : (before vs out : List ℕ) (n : ℕ) → length vs ≡ n → n ≤ length before → out ≡ over (take (length before) vs) before → take n out ≡ vs
+values-kept before vs out n e few h =
+    ap (take n) (h ∙ ap (λ (t : List ℕ). over t before) (take-all (length before) vs (omega (arith, e)))) ∙ take-over n vs before e
+
+-- from a text
+
+module _ (text : List ℕ) where
+  pub text-too-long : 65536 < length text → refusedLine BadHeader ≡ textToList text
+  unfolding textToList
+  text-too-long h = sym (rw (lt-ltb 65536 (length text) h))
+
+  module _ (fits : length text ≤ 65536) where
+    not-sound : isText text ≡ false → refusedLine BadHeader ≡ textToList text
+    unfolding textToList
+    not-sound h = sym (rw (le-ltb 65536 (length text) fits, h))
+
+    -- the three lines
+    found : isSettings text ≡ true → settingsAnswer text ≡ record { refusal = Accepted; lanes = headerIn text .lanes; mode = headerIn text .mode; length = length (settingsIn text) }
+    found q = rw q
+
+    lost : isSettings text ≡ false → settingsAnswer text ≡ noSettings
+    lost q = rw q
+
+    module _ (p : Packing) (e : p ≡ settingsAnswer text) where
+      pub no-settings : accepted (p .refusal) ≡ false → refusedLine (p .refusal) ≡ textToList text
+      unfolding isText
+      no-settings h = go (isSettings text) refl
+        where
+          go : (b : Bool) → isSettings text ≡ b → refusedLine (p .refusal) ≡ textToList text
+          go true q = absurd (apart (sym (ap (λ (t : Packing). accepted (t .refusal)) (e ∙ found q)) ∙ h))
+          go false q =
+              let k : p .refusal ≡ BadHeader = ap (λ (t : Packing). t .refusal) (e ∙ lost q) in
+              ap refusedLine k ∙ not-sound (rw q)
+
+      pub is-settings : accepted (p .refusal) ≡ true → (isSettings text ≡ true) × (p ≡ record { refusal = Accepted; lanes = headerIn text .lanes; mode = headerIn text .mode; length = length (settingsIn text) })
+      is-settings h = go (isSettings text) refl
+        where
+          go : (b : Bool) → isSettings text ≡ b → (isSettings text ≡ true) × (p ≡ record { refusal = Accepted; lanes = headerIn text .lanes; mode = headerIn text .mode; length = length (settingsIn text) })
+          go true q = (q, e ∙ found q)
+          go false q = absurd (apart (sym h ∙ ap (λ (t : Packing). accepted (t .refusal)) (e ∙ lost q)))
+
+    -- and the values
+    module _ (set : isSettings text ≡ true) where
+      pub settings-within : length (settingsIn text) ≤ length text
+      unfolding isSettings
+      settings-within = begins-within (settingsIn text) text (and-both (isLanes (headerIn text .lanes)) _ set .1)
+
+      pub not-lines : same (valueLines (valuesIn text)) (restIn text) ≡ false → refusedLine BadHeader ≡ textToList text
+      unfolding isText
+      not-lines h = not-sound (rw (set, h))
+
+      module _ (sound : same (valueLines (valuesIn text)) (restIn text) ≡ true) where
+        is-text : isText text ≡ true
+        unfolding isText
+        is-text = rw (set, sound)
+
+        pub list-out : output (measureRefusal (headerIn text .lanes) (headerIn text .mode) (valuesIn text)) (fileFor (headerIn text .lanes) (headerIn text .mode) (valuesIn text)) ≡ textToList text
+        unfolding textToList
+        list-out = sym (rw (le-ltb 65536 (length text) fits, is-text))
+
+        pub too-many : most < length (valuesIn text) → refusedLine TooMany ≡ textToList text
+        unfolding measureRefusal
+        too-many h =
+            let k : measureRefusal (headerIn text .lanes) (headerIn text .mode) (valuesIn text) ≡ TooMany = rw (settings-sets text set .lanes, lt-ltb most (length (valuesIn text)) h) in
+            sym (ap (λ (t : Refusal). output t (fileFor (headerIn text .lanes) (headerIn text .mode) (valuesIn text))) k) ∙ list-out
+
+-- what was told of the lines behind the settings
+pub record LinesTold (text before : List ℕ) (r : Lines) (after : List ℕ) : Type 0 where
+  pub sound : r .sound ≡ same (valueLines (valuesIn text)) (restIn text)
+  pub count : r .count ≡ length (valuesIn text)
+  pub values : after ≡ over (take (length before) (valuesIn text)) before
+
+pub lines-told : (text before : List ℕ) (n : ℕ) → n ≡ length (settingsIn text) → (r : Lines) (after : List ℕ)
+    → (r ≡ record { sound = same (valueLines (linesIn (midOf n (length text - n) text))) (midOf n (length text - n) text); count = length (linesIn (midOf n (length text - n) text)) }) × (after ≡ over (take (length before) (linesIn (midOf n (length text - n) text))) before)
+    → LinesTold text before r after
+lines-told text before n e r after h =
+    let rest : midOf n (length text - n) text ≡ restIn text = part-is n text ∙ ap (λ (t : ℕ). drop t text) e in
+    record {
+      sound = ap (λ (t : Lines). t .sound) (h .0) ∙ ap (λ (t : List ℕ). same (valueLines (linesIn t)) t) rest;
+      count = ap (λ (t : Lines). t .count) (h .0) ∙ ap (λ (t : List ℕ). length (linesIn t)) rest;
+      values = h .1 ∙ ap (λ (t : List ℕ). over (take (length before) (linesIn t)) before) rest;
+    }
+
+-- a list, packed into a file
+module _ (L : ℕ) (m : Mode) (vs : List ℕ) (r : Answer) (told : r ≡ measureAnswer L m vs) where
+  pub not-measured : accepted (r .refusal) ≡ false → refusedLine (r .refusal) ≡ output (measureRefusal L m vs) (fileFor L m vs)
+  not-measured h =
+      let k : r .refusal ≡ measureRefusal L m vs = ap (λ (a : Answer). a .refusal) told in
+      let f : accepted (measureRefusal L m vs) ≡ false = ap accepted (sym k) ∙ h in
+      sym (rw (f, k))
+
+  pub measured : accepted (r .refusal) ≡ true → (before : List ℕ) {q : Answer} {after : List ℕ} → (q ≡ writeAnswerOf L m vs (length before)) × (after ≡ writeOutputOf L m vs before)
+      → (q ≡ outAnswer (output (measureRefusal L m vs) (fileFor L m vs)) (length before)) × (after ≡ outLeft (output (measureRefusal L m vs) (fileFor L m vs)) before)
+  measured h before {q} {after} w =
+      let g : accepted (measureRefusal L m vs) ≡ true = ap (λ (a : Answer). accepted (a .refusal)) (sym told) ∙ h in
+      (w .0 ∙ rw g, w .1 ∙ rw g)

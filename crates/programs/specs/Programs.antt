@@ -1,0 +1,95 @@
+-- The two programs of document 01: what goes out for what comes in.
+use mathlib.Core.Path.{_≡_}
+use mathlib.Core.Bool.{Bool, true, false, not, _&&_, _||_, cond}
+use mathlib.Core.List.{List, [], _∷_}
+use Prim.Native.Nat.{ℕ, _^_}
+use lib.Dec.{ltb, eqb}
+use lib.ListN.{length, drop}
+use Rattle.layout.specs.Layout.{Below}
+use Rattle.modes.specs.declared.Mode.{Mode}
+use Rattle.blocks.specs.declared.Answer.{Answer}
+use Rattle.blocks.specs.declared.refusal.Refusal.{Refusal}
+use Rattle.blocks.specs.declared.refusal.Refusal.the-variants.{Accepted, NoRoom, BadHeader}
+use Rattle.blocks.specs.Refusals.{numberOf, accepted, refuse}
+use Rattle.blocks.specs.Calls.{answer, written}
+use Rattle.order.specs.Order.{most}
+use Rattle.bodies.specs.Reading.{orElse}
+use Rattle.lists.specs.Calls.{measureRefusal}
+use Rattle.text.specs.Text.{decimal, line, same}
+use Rattle.files.specs.Header.{settings, Sets}
+use Rattle.files.specs.Opening.{settingsIn, isSettings}
+use Rattle.files.specs.kernel.Fields.{headerIn}
+use Rattle.files.specs.Calls.{listIn, readRefusalOf, fileFor}
+use Rattle.programs.specs.Lines.{valueLines}
+use Rattle.programs.specs.kernel.Lines.{linesIn}
+
+-- "the line `refused=` and the number"
+abbrev pub refusedLine : Refusal → List ℕ
+refusedLine k = line "refused=" (decimal (numberOf k)) []
+
+-- what a program writes: the text t, or that line where k refuses
+abbrev pub output : Refusal → List ℕ → List ℕ
+output k t = cond (accepted k) t (refusedLine k)
+
+-- "input over 65,536 bytes, is 12, and 12 comes before any other number"
+abbrev pub sizeRefusal : List ℕ → Refusal
+sizeRefusal input = refuse (ltb 65536 (length input)) BadHeader Accepted
+
+-- what a file is refused for. There is room for 4,096 values.
+abbrev pub fileRefusal : List ℕ → Refusal
+fileRefusal file = orElse (sizeRefusal file) (readRefusalOf file most)
+
+-- "One program reads such a file on standard input and writes each value in decimal on its own line, or the line `refused=` and the
+-- number."
+unfoldable pub listToText : List ℕ → List ℕ
+listToText file = output (fileRefusal file) (valueLines (listIn file))
+
+-- "The other reads the lanes, mode and first lines and then one value a line": the text of the list vs
+abbrev pub textOf : ℕ → Mode → List ℕ → List ℕ
+textOf L m vs = settings L m (valueLines vs)
+
+-- a sound text: what some lanes, mode, first and values write
+pub record IsText (text : List ℕ) (L : ℕ) (m : Mode) (vs : List ℕ) : Type 0 where
+  pub sets : Sets text L m (valueLines vs)
+  pub values : Below (2 ^ 32) vs
+
+-- what stands behind the three lines, and the values of its lines
+abbrev pub restIn : List ℕ → List ℕ
+restIn text = drop (length (settingsIn text)) text
+
+abbrev pub valuesIn : List ℕ → List ℕ
+valuesIn text = linesIn (restIn text)
+
+-- whether a text is sound: behind the three lines stand the lines of the values that are found there, and nothing else
+unfoldable pub isText : List ℕ → Bool
+isText text = isSettings text && same (valueLines (valuesIn text)) (restIn text)
+
+-- "Text that breaks this form anywhere .., or input over 65,536 bytes, is 12, and 12 comes before any other number": then 7 and 8
+abbrev pub textRefusal : List ℕ → Refusal
+textRefusal text =
+    orElse (sizeRefusal text)
+    (refuse (not (isText text)) BadHeader
+    (measureRefusal (headerIn text .lanes) (headerIn text .mode) (valuesIn text)))
+
+-- ".. and writes a file or that same line."
+unfoldable pub textToList : List ℕ → List ℕ
+textToList text = output (textRefusal text) (fileFor (headerIn text .lanes) (headerIn text .mode) (valuesIn text))
+
+-- whether a refusal has one of some numbers: "Number 4 does not arise in the programs" (proofs/Theorems, file-numbers, text-numbers)
+unfoldable pub isOne : List ℕ → ℕ → Bool
+isOne [] n = false
+isOne (x ∷ xs) n = eqb n x || isOne xs n
+
+abbrev pub HasOne : List ℕ → Refusal → Type 0
+HasOne numbers k = isOne numbers (numberOf k) ≡ true
+
+-- A call puts what goes out at the front of the caller's output, and 4 is its answer where that is too short: see proofs/Theorems for
+-- the room that is always enough.
+abbrev pub roomRefusal : List ℕ → ℕ → Refusal
+roomRefusal text room = refuse (ltb room (length text)) NoRoom Accepted
+
+abbrev pub outAnswer : List ℕ → ℕ → Answer
+outAnswer text room = answer (roomRefusal text room) (length text)
+
+abbrev pub outLeft : List ℕ → List ℕ → List ℕ
+outLeft text before = written (roomRefusal text (length before)) text before

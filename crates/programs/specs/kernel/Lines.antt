@@ -1,0 +1,16 @@
+-- The values of the lines that bytes begin with. Nobody need believe this: the lines of the values that are found so are held against the
+-- bytes themselves (Programs, isText), and what some values write is found so (proofs/Theorems, texts-exactly).
+use mathlib.Core.Bool.{cond}
+use mathlib.Core.List.{List, [], _∷_}
+use Prim.Native.Nat.{ℕ, zero, suc}
+use lib.ListN.{length, drop}
+use Rattle.text.specs.Text.{begins, fieldAt}
+use Rattle.programs.specs.Lines.{valueLine}
+
+-- line after line, as long as the bytes begin with the line of the number that they begin with; at most `most` of them
+unfoldable pub linesFrom : ℕ → List ℕ → List ℕ
+linesFrom zero bs = []
+linesFrom (suc most) bs = cond (begins (valueLine (fieldAt bs 0) []) bs) (fieldAt bs 0 ∷ linesFrom most (drop (length (valueLine (fieldAt bs 0) [])) bs)) []
+
+abbrev pub linesIn : List ℕ → List ℕ
+linesIn bs = linesFrom (length bs) bs

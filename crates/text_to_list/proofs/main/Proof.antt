@@ -1,0 +1,46 @@
+-- What goes out lies within the output.
+use mathlib.Core.Path.{sym, _≡_}
+use Prim.Native.Nat.{_≤_}
+use native.Mathlib.Omega.{arith}
+use lib.ListN.{length, take}
+use lib.Seq.{length-take-le}
+use Rattle.blocks.specs.declared.refusal.Refusal.the-variants.{Accepted}
+use Rattle.programs.specs.Programs.{textToList}
+use Rattle.programs.proofs.Theorems.{file-short, not-four, answer-within}
+use borrow.Author.Needs.{needs}
+use Rattle.text_to_list.proofs.main.Statement.{statement}
+use Rattle.text_to_list.proofs.main.Tie as tie
+
+within : (c : tie.After-text-to-list) → c .text-to-list .result .length ≤ length (c .text-to-list .last .1 .0)
+within c =
+    let i = c .before .before .before .before in
+    let w = answer-within (textToList (take (i .read-input .result) (i .read-input .last .0))) _ (c .text-to-list .ensures .0) in
+    omega (arith, w, c .text-to-list .kept)
+
+-- and is all of it: 4 is not the answer here
+all-of-it : (c : tie.After-text-to-list) → c .text-to-list .result .refusal ≡ Accepted
+all-of-it c =
+    let i = c .before .before .before .before in
+    let input = take (i .read-input .result) (i .read-input .last .0) in
+    not-four (textToList input) _ (file-short input) (c .text-to-list .ensures .0)
+
+array-share-prefix-output : tie.Need-array-share-prefix-output
+array-share-prefix-output c = within (c .before)
+
+slice-aggregate-write-output : tie.Need-slice-aggregate-write-output
+slice-aggregate-write-output c = sym (length-take-le _ (c .before .before .text-to-list .last .1 .0) (within (c .before .before)))
+
+pub main-spec : {M : Type 1} → statement M
+main-spec =
+    tie.close
+    (tie.spec
+    (search needs)
+    (search needs)
+    (search needs)
+    (search needs)
+    (search needs)
+    (search needs)
+    array-share-prefix-output
+    slice-aggregate-write-output
+    (search needs)
+    (search needs))

@@ -5,3 +5,4 @@ pub mod Unpacking
 pub mod Tests
 pub mod Answers
 pub mod Trips
+pub mod Determined

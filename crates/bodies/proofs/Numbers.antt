@@ -1,16 +1,16 @@
 -- Which numbers reading a body may give: 5, 2, 10, 9, 8, 11, and none other.
 use mathlib.Core.Bool.{Bool, true, false, not, cond}
 use mathlib.Core.List.{List}
-use Prim.Native.Nat.{ℕ, zero, suc, _+_, _-_, min}
+use Prim.Native.Nat.{ℕ, zero, suc, _+_, _-_}
 use lib.Dec.{ltb, eqb}
-use lib.ListN.{length, drop}
+use lib.ListN.{length}
 use Rattle.layout.specs.Layout.{blockSize}
 use Rattle.layout.specs.Width.{fits, leastWidth}
 use Rattle.modes.specs.declared.Mode.{Mode}
 use Rattle.blocks.specs.declared.refusal.Refusal.{Refusal}
 use Rattle.blocks.specs.declared.refusal.Refusal.the-variants.{Accepted, BadWidth, CutShort, OutOfOrder, NotLeast, BadFill, LeftOver}
 use Rattle.blocks.specs.Refusals.{accepted, refuse}
-use Rattle.order.specs.Order.{afterAll, ordered}
+use Rattle.order.specs.Order.{ordered}
 use Rattle.bodies.specs.Body.{blockCount}
 use Rattle.bodies.specs.Reading.{orElse, widthAt, sizeAt, entryAt, valuesAt, frameRefusal, entriesRefusal, shapeRefusal, valuesRefusal, blockRefusal, refusalFrom, bodyRefusal}
 
@@ -48,9 +48,7 @@ module _ (P : Refusal → Type 0) where
     from : (L : ℕ) (m : Mode) (count : ℕ) (bs : List ℕ) (b : ℕ) → P (refusalFrom L m count bs b)
     unfolding refusalFrom
     from L m count bs zero = refused (ltb 0 (length bs)) LeftOver Accepted left none
-    from L m count bs (suc b) =
-        either (blockRefusal L m (min (blockSize L) count) bs) _ (block-only L m (min (blockSize L) count) bs)
-        (from L (afterAll m (valuesAt L m (min (blockSize L) count) bs)) (count - blockSize L) (drop (sizeAt L bs) bs) b)
+    from L m count bs (suc b) = either _ _ (block-only _ _ _ _) (from _ _ _ _ b)
 
     pub body-only : (L : ℕ) (m : Mode) (count : ℕ) (bs : List ℕ) → P (bodyRefusal L m count bs)
     body-only L m count bs = from L m count bs (blockCount L count)

@@ -1,35 +1,22 @@
 -- How long a body is at most, and how long a list is that is read.
-use mathlib.Core.Path.{_≡_, refl, sym, _∙_}
-use mathlib.Core.Bool.{Bool, true, false}
+use mathlib.Core.Path.{_≡_, _∙_}
+use mathlib.Core.Bool.{true}
 use mathlib.Core.List.{List}
 use Prim.Native.Nat.{ℕ, zero, suc, _+_, _*_, _-_, _≤_, _<_, min}
 use native.Mathlib.Nat.{mul-le-mul, zero-mul, sub-add-min-cancel, min-comm}
 use native.Mathlib.Omega.{arith}
-use borrow.Author.Tests.{eqb-true}
-use lib.Dec.{eqb}
 use lib.ListN.{length, take, drop, length-append}
 use Rattle.layout.specs.Layout.{blockSize}
 use Rattle.layout.proofs.Tables.{length-packed, length-table}
 use Rattle.layout.proofs.Widths.{width-most}
 use Rattle.modes.specs.declared.Mode.{Mode}
 use Rattle.blocks.specs.Calls.{isLanes}
-use Rattle.blocks.proofs.Tests.{apart}
+use Rattle.blocks.proofs.Tests.{for-lanes}
 use Rattle.order.specs.Order.{most, entriesOf}
 use Rattle.order.proofs.Steps.{length-values}
 use Rattle.bodies.specs.Body.{filled, widthOf, block, blockCount, blocksOf, bodyOf}
 use Rattle.bodies.specs.Reading.{sizeAt, entryAt, entriesAt, entriesFrom, listOf}
 use Rattle.bodies.proofs.Whole.{suc-times, blocks-enough}
-
--- what holds for 1, 4 and 8 lanes holds for all lanes that there are
-pub for-lanes : (P : ℕ → Type 0) → P 1 → P 4 → P 8 → (L : ℕ) → isLanes L ≡ true → P L
-unfolding isLanes
-for-lanes P one four eight L h = go (eqb L 1) refl (eqb L 4) refl (eqb L 8) refl
-  where
-    go : (a : Bool) → eqb L 1 ≡ a → (b : Bool) → eqb L 4 ≡ b → (c : Bool) → eqb L 8 ≡ c → P L
-    go true p b q c r = rw (eqb-true L 1 p) one
-    go false p true q c r = rw (eqb-true L 4 q) four
-    go false p false q true r = rw (eqb-true L 8 r) eight
-    go false p false q false r = absurd (apart (sym (rw (p, q, r) at h)))
 
 block-short : (L : ℕ) (es : List ℕ) → length (block L es) ≤ 1 + 128 * L
 unfolding block

@@ -3,3 +3,4 @@ pub mod Tests
 pub mod Filing
 pub mod Found
 pub mod Theorems
+pub mod Determined

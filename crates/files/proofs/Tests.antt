@@ -16,22 +16,22 @@ use Rattle.files.specs.declared.heading.Header.{Header}
 use Rattle.files.specs.declared.Packing.{Packing}
 use Rattle.files.specs.Header.{settings, headerText}
 use Rattle.files.specs.kernel.Fields.{headerIn}
-use Rattle.files.specs.Opening.{bodyIn, isFile, openAnswer, isSettings, noSettings, settingsAnswer}
+use Rattle.files.specs.Opening.{bodyIn, isHeaded, isFile, openAnswer, isSettings, noSettings, settingsAnswer}
 use Rattle.files.specs.Calls.{readAnswerOf, readOutputOf}
 
 -- one test after another, for the header h that the fields give
 module _ (file : List ℕ) (h : Header) (is : h ≡ headerIn file) where
   pub no-lanes : isLanes (h .lanes) ≡ false → false ≡ isFile file
-  unfolding isFile
+  unfolding isFile isHeaded
   no-lanes a = sym (rw (← is, a))
 
   module _ (a : isLanes (h .lanes) ≡ true) where
     pub no-text : begins (headerText h) file ≡ false → false ≡ isFile file
-    unfolding isFile
+    unfolding isFile isHeaded
     no-text b = sym (rw (← is, a, b))
 
     pub last-test : begins (headerText h) file ≡ true → eqb (h .bytes) (length file - length (headerText h)) ≡ isFile file
-    unfolding isFile bodyIn
+    unfolding isFile isHeaded bodyIn
     last-test b = sym (rw (← is, a, b, length-drop))
 
   -- of the settings alone
@@ -55,14 +55,14 @@ pub record Filed (file : List ℕ) : Type 0 where
   pub bytes : headerIn file .bytes ≡ length (bodyIn file)
 
 pub filed : (file : List ℕ) → isFile file ≡ true → Filed file
-unfolding isFile
+unfolding isFile isHeaded
 filed file h =
-    let a = and-both (isLanes (headerIn file .lanes)) _ h in
-    let b = and-both (begins (headerText (headerIn file)) file) _ (a .1) in
-    record { lanes = a .0; text = b .0; bytes = eqb-true _ _ (b .1) }
+    let a = and-both (isHeaded file) _ h in
+    let b = and-both (isLanes (headerIn file .lanes)) _ (a .0) in
+    record { lanes = b .0; text = b .1; bytes = eqb-true _ _ (a .1) }
 
 pub is-file : (file : List ℕ) → Filed file → isFile file ≡ true
-unfolding isFile
+unfolding isFile isHeaded
 is-file file f = rw (f .lanes, f .text, eq-eqb (headerIn file .bytes) (length (bodyIn file)) (f .bytes))
 
 -- reading a file: the two ways out

@@ -22,8 +22,12 @@ use Rattle.files.specs.kernel.Fields.{headerIn}
 unfoldable pub bodyIn : List ℕ → List ℕ
 bodyIn file = drop (length (headerText (headerIn file))) file
 
+-- whether a file begins with a header, whatever its `bytes` says
+unfoldable pub isHeaded : List ℕ → Bool
+isHeaded file = isLanes (headerIn file .lanes) && begins (headerText (headerIn file)) file
+
 unfoldable pub isFile : List ℕ → Bool
-isFile file = isLanes (headerIn file .lanes) && (begins (headerText (headerIn file)) file && eqb (headerIn file .bytes) (length (bodyIn file)))
+isFile file = isHeaded file && eqb (headerIn file .bytes) (length (bodyIn file))
 
 -- "12 .. header is not as above, or `bytes` is not the body's length"
 abbrev pub headerRefusal : List ℕ → Refusal

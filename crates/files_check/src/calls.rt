@@ -1,15 +1,15 @@
 // The four calls on one file: a word with what each answers, and the checksum of what it handed back or left.
-use crate::buffers::bytes_sum;
 use crate::buffers::first_values;
-use crate::buffers::lesser;
 use crate::buffers::marked_bytes;
 use crate::buffers::marked_values;
-use crate::buffers::values_sum;
 use blocks::Answer;
 use files::heading::Header;
 use libc::STDOUT_FILENO;
 use modes::Initial;
 use modes::Mode;
+use tables::bytes_sum;
+use tables::lesser;
+use tables::values_sum;
 
 fn number(word: &[u8], value: u64) {
     io::write_all(STDOUT_FILENO, word);

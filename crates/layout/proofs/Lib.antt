@@ -9,3 +9,4 @@ pub mod Widths
 pub mod Below
 pub mod Parts
 pub mod Fronts
+pub mod Determined

@@ -6,3 +6,4 @@ pub mod Stores
 pub mod Accepts
 pub mod Demand
 pub mod Starred
+pub mod Determined

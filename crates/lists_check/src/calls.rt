@@ -1,12 +1,12 @@
 // The two calls with so much room, which is full of marks: a word with what they answer, and the checksum of the room afterwards.
-use crate::buffers::bytes_sum;
 use crate::buffers::first_values;
-use crate::buffers::lesser;
 use crate::buffers::marked_bytes;
 use crate::buffers::marked_values;
-use crate::buffers::values_sum;
 use crate::line;
 use modes::Mode;
+use tables::bytes_sum;
+use tables::lesser;
+use tables::values_sum;
 
 fn write_into(word: &[u8], lanes: usize, mode: Mode, values: &[u32], output: &mut [u8]) {
     let written = lists::write(lanes, mode, values, output);

@@ -1,5 +1,4 @@
 // A list that is written and read back, and a body that may be wrong.
-use crate::buffers::bytes_sum;
 use crate::buffers::first_bytes;
 use crate::buffers::first_values;
 use crate::buffers::marked_bytes;
@@ -16,6 +15,7 @@ use crate::words::ROOM;
 use crate::words::THEN;
 use crate::words::mode_of;
 use modes::Mode;
+use tables::bytes_sum;
 ghost use mathlib.Core.Path.{_≡_};
 ghost use Prim.Native.Nat.{_≤_};
 ghost use lib.ListN.{length};

@@ -1,13 +1,13 @@
 // Bodies of which one byte is changed: each is refused, or is the body of another list.
 use crate::buffers::first_bytes;
 use crate::buffers::first_values;
-use crate::buffers::lesser;
 use crate::buffers::marked_bytes;
 use crate::buffers::marked_values;
 use crate::buffers::same_bytes;
-use crate::buffers::values_sum;
 use crate::line;
 use modes::Mode;
+use tables::lesser;
+use tables::values_sum;
 ghost use Prim.Native.Nat.{_≤_};
 
 // The checksum of a buffer that holds nothing but marks.

@@ -1,11 +1,11 @@
 // The lists that are written, each made from the words of its case.
-use crate::buffers::lesser;
 use crate::words::NEXT;
 use crate::words::ODD;
 use crate::words::VALUES;
 use crate::words::last_letter;
 use crate::words::value_of;
 use std::num::wrapping_add_u32;
+use tables::lesser;
 ghost use mathlib.Core.Path.{_≡_};
 ghost use Prim.Native.Nat.{_≤_};
 ghost use lib.ListN.{length};

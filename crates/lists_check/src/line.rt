@@ -1,9 +1,9 @@
 // What is written behind the text of a case. A word comes with the blank before it and the `=` behind its name.
-use crate::buffers::lesser;
-use crate::buffers::values_sum;
 use crate::buffers::wide;
 use blocks::Answer;
 use libc::STDOUT_FILENO;
+use tables::lesser;
+use tables::values_sum;
 
 // A word and a number.
 pub(crate) fn number(word: &[u8], value: u64) {

@@ -2,3 +2,4 @@ pub mod Steps
 pub mod Beginnings
 pub mod Going
 pub mod Blockwise
+pub mod Determined

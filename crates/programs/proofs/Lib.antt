@@ -2,3 +2,4 @@ pub mod ValueLines
 pub mod Found
 pub mod Outcomes
 pub mod Theorems
+pub mod Determined

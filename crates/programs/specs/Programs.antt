@@ -31,9 +31,13 @@ refusedLine k = line "refused=" (decimal (numberOf k)) []
 abbrev pub output : Refusal → List ℕ → List ℕ
 output k t = cond (accepted k) t (refusedLine k)
 
+-- the most bytes of an input
+abbrev pub limit : ℕ
+limit = 65536
+
 -- "input over 65,536 bytes, is 12, and 12 comes before any other number"
 abbrev pub sizeRefusal : List ℕ → Refusal
-sizeRefusal input = refuse (ltb 65536 (length input)) BadHeader Accepted
+sizeRefusal input = refuse (ltb limit (length input)) BadHeader Accepted
 
 -- what a file is refused for. There is room for 4,096 values.
 abbrev pub fileRefusal : List ℕ → Refusal

@@ -1,11 +1,11 @@
 // One program on one input: a word with what it answers, and the checksum of its output afterwards.
-use crate::buffers::bytes_sum;
-use crate::buffers::lesser;
 use crate::buffers::marked_bytes;
 use blocks::Answer;
 use libc::STDOUT_FILENO;
 use programs::list_to_text;
 use programs::text_to_list;
+use tables::bytes_sum;
+use tables::lesser;
 
 fn number(word: &[u8], value: u64) {
     io::write_all(STDOUT_FILENO, word);

@@ -5,6 +5,7 @@ use calls::run_program;
 use libc::STDIN_FILENO;
 use libc::STDOUT_FILENO;
 use pieces::put_pieces;
+use tables::place_of;
 ghost use mathlib.Core.Path.{_≡_};
 ghost use lib.ListN.{length};
 
@@ -33,16 +34,12 @@ fn run_case(text: &[u8]) {
 
 // A line of the table: the name up to the first blank, and the case.
 fn run_line(line: &[u8]) {
-    let mut i: usize = 0;
-    while i < line.len() {
-        if line[i] == b' ' {
-            io::write_all(STDOUT_FILENO, &line[0..i]);
-            run_case(&line[i + 1..]);
-            io::write_all(STDOUT_FILENO, b"\n");
-            return;
-        }
-        i += 1;
+    let end = place_of(b' ', line);
+    io::write_all(STDOUT_FILENO, &line[..end]);
+    if end < line.len() {
+        run_case(&line[end + 1..]);
     }
+    io::write_all(STDOUT_FILENO, b"\n");
 }
 
 // Every line of a text.

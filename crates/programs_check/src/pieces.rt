@@ -1,39 +1,8 @@
 // The input of a case, made from its pieces. A piece is bytes in hex, and behind them, where they repeat, `*` and how many times.
-use crate::buffers::lesser;
-ghost use Prim.Native.Nat.{_≤_, _<_};
+use tables::decode;
+use tables::place_of;
+ghost use Prim.Native.Nat.{_≤_};
 ghost use lib.ListN.{length};
-
-// What a letter of a hex number stands for; any other is 0.
-fn digit(letter: u8) -> u8
-    ensures { λ r. ⌜ r < 16 ⌝ }
-{
-    if letter < 48 {
-        return 0;
-    }
-    if letter < 58 {
-        return letter - 48;
-    }
-    if letter < 97 {
-        return 0;
-    }
-    if letter < 103 {
-        return letter - 87;
-    }
-    0
-}
-
-// The bytes that a hex number stands for, no more than there is room for. Answers how many.
-fn decode(text: &[u8], bytes: &mut [u8]) -> usize
-    ensures { λ r. ⌜ r ≤ length (now (bytes .exit)) ⌝ }
-{
-    let count = lesser(text.len() / 2, bytes.len());
-    let mut i: usize = 0;
-    while i < count {
-        bytes[i] = digit(text[2 * i]) * 16 + digit(text[2 * i + 1]);
-        i += 1;
-    }
-    count
-}
 
 // The bytes that a hex number stands for, so many times, no more than there is room for. Answers how many.
 fn repeat(text: &[u8], times: usize, bytes: &mut [u8]) -> usize
@@ -66,20 +35,6 @@ fn times(text: &[u8]) -> usize {
         return 1;
     }
     decimal(&text[1..])
-}
-
-// Where a letter stands first, and the end of the text where it does not.
-fn place_of(letter: u8, text: &[u8]) -> usize
-    ensures { λ r. ⌜ r ≤ length (now (text .entry)) ⌝ }
-{
-    let mut i: usize = 0;
-    while i < text.len() {
-        if text[i] == letter {
-            return i;
-        }
-        i += 1;
-    }
-    i
 }
 
 // The bytes of the piece at the front of a text. Answers how many.

@@ -3,3 +3,4 @@ pub mod Spelling
 pub mod Numbers
 pub mod Lines
 pub mod Beginnings
+pub mod Determined

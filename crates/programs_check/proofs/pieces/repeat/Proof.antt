@@ -22,7 +22,7 @@ loop-holds c = (omega arith, omega arith, refl)
 within : (c : tie.After-decode Inv-loop μ-loop) → c .before .before .before .loop .size + c .decode .result ≤ length (c .before .before .before .loop .bytes)
 within c =
     let l = c .before .before .before .loop in
-    omega (arith, l .inv .1, c .decode .ensures, c .decode .kept .1 .0, part-length (l .size) (l .bytes))
+    omega (arith, l .inv .1, c .decode .ensures .1 .1 .0, c .decode .kept .1 .0, part-length (l .size) (l .bytes))
 
 add-size : tie.Need-add-size Inv-loop μ-loop
 add-size c =

@@ -1,0 +1,39 @@
+-- For each public function of the crate: two answers that its contract allows for one input are equal, and so is what it leaves in the
+-- memory that it was lent to write.
+use mathlib.Core.Path.{sym, _∙_}
+use Rattle.layout.proofs.Determined.{AnswerDetermined, Determined}
+use Rattle.blocks.proofs.is_lanes.Reads as is-lanes
+use Rattle.blocks.proofs.is_lanes.Kinds as is-lanes-kinds
+use Rattle.blocks.proofs.compressed_block_size.Reads as compressed-block-size
+use Rattle.blocks.proofs.compressed_block_size.Kinds as compressed-block-size-kinds
+use Rattle.blocks.proofs.compress.Reads as compress
+use Rattle.blocks.proofs.compress.Kinds as compress-kinds
+use Rattle.blocks.proofs.decompress.Reads as decompress
+use Rattle.blocks.proofs.decompress.Kinds as decompress-kinds
+use Rattle.blocks.proofs.num_bits.Reads as num-bits
+use Rattle.blocks.proofs.num_bits.Kinds as num-bits-kinds
+use Rattle.blocks.proofs.refusal.Refusal.is_accepted.Reads as is-accepted
+use Rattle.blocks.proofs.refusal.Refusal.is_accepted.Kinds as is-accepted-kinds
+use Rattle.blocks.proofs.refusal.Refusal.number.Reads as number
+use Rattle.blocks.proofs.refusal.Refusal.number.Kinds as number-kinds
+
+is-lanes-determined : AnswerDetermined is-lanes-kinds.ps is-lanes-kinds.r is-lanes.Post
+is-lanes-determined κs a z z′ e e′ p q = p ∙ sym q
+
+compressed-block-size-determined : AnswerDetermined compressed-block-size-kinds.ps compressed-block-size-kinds.r compressed-block-size.Post
+compressed-block-size-determined κs a z z′ e e′ p q = p ∙ sym q
+
+compress-determined : Determined compress-kinds.ps compress-kinds.r compress.Post (λ κs e. e .1 .1 .1 .0 .now)
+compress-determined κs a z z′ e e′ p q = (p .0 ∙ sym (q .0), p .1 ∙ sym (q .1))
+
+decompress-determined : Determined decompress-kinds.ps decompress-kinds.r decompress.Post (λ κs e. e .1 .1 .1 .0 .now)
+decompress-determined κs a z z′ e e′ p q = (p .0 ∙ sym (q .0), p .1 ∙ sym (q .1))
+
+num-bits-determined : AnswerDetermined num-bits-kinds.ps num-bits-kinds.r num-bits.Post
+num-bits-determined κs a z z′ e e′ p q = p ∙ sym q
+
+is-accepted-determined : AnswerDetermined is-accepted-kinds.ps is-accepted-kinds.r is-accepted.Post
+is-accepted-determined κs a z z′ e e′ p q = p ∙ sym q
+
+number-determined : AnswerDetermined number-kinds.ps number-kinds.r number.Post
+number-determined κs a z z′ e e′ p q = p ∙ sym q

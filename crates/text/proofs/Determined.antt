@@ -1,0 +1,39 @@
+-- For each public function of the crate: two answers that its contract allows for one input are equal, and so is what it leaves in the
+-- memory that it was lent to write.
+use mathlib.Core.Path.{sym, _∙_}
+use Rattle.layout.proofs.Determined.{AnswerDetermined, Determined}
+use Rattle.text.proofs.put.Reads as put
+use Rattle.text.proofs.put.Kinds as put-kinds
+use Rattle.text.proofs.put_decimal.Reads as put-decimal
+use Rattle.text.proofs.put_decimal.Kinds as put-decimal-kinds
+use Rattle.text.proofs.put_line.Reads as put-line
+use Rattle.text.proofs.put_line.Kinds as put-line-kinds
+use Rattle.text.proofs.put_number_line.Reads as put-number-line
+use Rattle.text.proofs.put_number_line.Kinds as put-number-line-kinds
+use Rattle.text.proofs.begins.Reads as begins
+use Rattle.text.proofs.begins.Kinds as begins-kinds
+use Rattle.text.proofs.number.Reads as number
+use Rattle.text.proofs.number.Kinds as number-kinds
+use Rattle.text.proofs.field.Reads as field
+use Rattle.text.proofs.field.Kinds as field-kinds
+
+put-determined : Determined put-kinds.ps put-kinds.r put.Post (λ κs e. e .1 .0 .now)
+put-determined κs a z z′ e e′ p q = (p .0 ∙ sym (q .0), p .1 ∙ sym (q .1))
+
+put-decimal-determined : Determined put-decimal-kinds.ps put-decimal-kinds.r put-decimal.Post (λ κs e. e .1 .0 .now)
+put-decimal-determined κs a z z′ e e′ p q = (p .0 ∙ sym (q .0), p .1 ∙ sym (q .1))
+
+put-line-determined : Determined put-line-kinds.ps put-line-kinds.r put-line.Post (λ κs e. e .1 .1 .0 .now)
+put-line-determined κs a z z′ e e′ p q = (p .0 ∙ sym (q .0), p .1 ∙ sym (q .1))
+
+put-number-line-determined : Determined put-number-line-kinds.ps put-number-line-kinds.r put-number-line.Post (λ κs e. e .1 .1 .0 .now)
+put-number-line-determined κs a z z′ e e′ p q = (p .0 ∙ sym (q .0), p .1 ∙ sym (q .1))
+
+begins-determined : AnswerDetermined begins-kinds.ps begins-kinds.r begins.Post
+begins-determined κs a z z′ e e′ p q = p ∙ sym q
+
+number-determined : AnswerDetermined number-kinds.ps number-kinds.r number.Post
+number-determined κs a z z′ e e′ p q = p ∙ sym q
+
+field-determined : AnswerDetermined field-kinds.ps field-kinds.r field.Post
+field-determined κs a z z′ e e′ p q = p ∙ sym q

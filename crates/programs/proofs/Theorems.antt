@@ -15,7 +15,7 @@ use Rattle.blocks.specs.declared.Answer.{Answer}
 use Rattle.blocks.specs.declared.refusal.Refusal.{Refusal}
 use Rattle.blocks.specs.declared.refusal.Refusal.the-variants.{Accepted, NoRoom, TooMany, OutOfOrder, BadHeader}
 use Rattle.blocks.specs.Refusals.{numberOf, accepted, refuse}
-use Rattle.blocks.proofs.Tests.{passed}
+use Rattle.blocks.proofs.Tests.{apart, passed}
 use Rattle.order.specs.Order.{most, starting, ordered, IsList}
 use Rattle.bodies.specs.Body.{bodyOf}
 use Rattle.bodies.specs.Reading.{orElse, bodyRefusal, listOf}
@@ -39,7 +39,7 @@ use Rattle.files.proofs.Tests.{filed}
 use Rattle.files.proofs.Theorems.{sets-found, sets-settings, rest-found, settings-sets, heads-file, body-found, opened, held, same-file, file-accepted, file-list-back}
 use Rattle.programs.specs.Lines.{valueLines}
 use Rattle.programs.specs.kernel.Lines.{linesIn}
-use Rattle.programs.specs.Programs.{refusedLine, output, sizeRefusal, fileRefusal, listToText, textOf, IsText, restIn, valuesIn, isText, textRefusal, textToList, isOne, HasOne, outAnswer, outLeft}
+use Rattle.programs.specs.Programs.{refusedLine, output, sizeRefusal, fileRefusal, listToText, IsText, restIn, valuesIn, isText, textRefusal, textToList, isOne, HasOne, outAnswer, outLeft}
 use Rattle.programs.proofs.ValueLines.{lines-short}
 use Rattle.programs.proofs.Found.{values-found, found-small}
 use Rattle.programs.proofs.Outcomes.{list-few, file-accepted as printed-values}
@@ -175,9 +175,21 @@ text-numbers text =
         rw (q, sound-text text q .sets .lanes)
         (refused Mine (ltb most (length (valuesIn text))) TooMany _ refl (refused Mine (not (ordered (starting (headerIn text .mode)) (valuesIn text))) OutOfOrder Accepted refl refl))
 
+-- "Number 4 does not arise in the programs."
+pub file-not-four : (file : List ℕ) → numberOf (fileRefusal file) ≡ 4 → ⊥
+unfolding isOne
+file-not-four file e = apart (sym (sym (ap (isOne (0 ∷ 12 ∷ 7 ∷ 5 ∷ 2 ∷ 10 ∷ 9 ∷ 8 ∷ 11 ∷ [])) e) ∙ file-numbers file))
+
+pub text-not-four : (text : List ℕ) → numberOf (textRefusal text) ≡ 4 → ⊥
+unfolding isOne
+text-not-four text e = apart (sym (sym (ap (isOne (0 ∷ 12 ∷ 7 ∷ 8 ∷ [])) e) ∙ text-numbers text))
+
 -- there and back
 
--- the length of a list's text
+-- the text of a list, and how long it is
+abbrev textOf : ℕ → Mode → List ℕ → List ℕ
+textOf L m vs = settings L m (valueLines vs)
+
 text-length : (L : ℕ) (m : Mode) (vs : List ℕ) → length vs ≤ most → length (textOf L m vs) ≤ 45102
 text-length L m vs few =
     let e : length (textOf L m vs) ≡ length (settings L m []) + length (valueLines vs) = ap length (sym (settings-rest L m (valueLines vs))) ∙ length-append (settings L m []) (valueLines vs) in

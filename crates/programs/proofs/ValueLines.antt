@@ -185,9 +185,9 @@ module _ {bs before : List ℕ} {place count : ℕ} {out : List ℕ} (r : Readin
             let e′ : ys ≡ out = e ∙ rw (le-ltb count (length out) (omega (arith, reading-length))) in
             rw (same-front, e′) (r .here)
 
-    pub reading-more : {ys : List ℕ} → ys ≡ cond (ltb count (length out)) (set out count (fieldAt bs place)) out → Reading bs before (place + length (valueLine (fieldAt bs place) [])) (count + 1) ys
+    longer : {ys : List ℕ} → ys ≡ cond (ltb count (length out)) (set out count (fieldAt bs place)) out → Reading bs before (place + length (valueLine (fieldAt bs place) [])) (count + 1) ys
     unfolding linesFrom
-    reading-more {ys} e =
+    longer {ys} e =
         let n : ℕ = length (valueLine value []) in
         let lines : valueLines (r .done ++ (value ∷ [])) ≡ valueLines (r .done) ++ valueLine value [] = lines-more (r .done) value in
         let rest : drop place bs ≡ valueLine value [] ++ drop (place + n) bs = begins-whole (valueLine value []) (drop place bs) h ∙ ap (λ (t : List ℕ). valueLine value [] ++ t) (drop-drop n place bs) in
@@ -204,3 +204,6 @@ module _ {bs before : List ℕ} {place count : ℕ} {out : List ℕ} (r : Readin
               ∙ rw (h, drop-drop n place bs) (sym (append-assoc (r .done) (value ∷ []) (linesFrom (length bs - (count + 1)) (drop (place + n) bs))));
           here = kept e;
         }
+
+    pub reading-more : (n : ℕ) → n ≡ length (valueLine (fieldAt bs place) []) → {ys : List ℕ} → ys ≡ cond (ltb count (length out)) (set out count (fieldAt bs place)) out → Reading bs before (place + n) (count + 1) ys
+    reading-more n is e = rw is (longer e)

@@ -16,7 +16,7 @@ use Rattle.order.specs.Order.{most}
 use Rattle.bodies.specs.Reading.{orElse}
 use Rattle.lists.specs.Calls.{measureRefusal}
 use Rattle.text.specs.Text.{decimal, line, same}
-use Rattle.files.specs.Header.{settings, Sets}
+use Rattle.files.specs.Header.{Sets}
 use Rattle.files.specs.Opening.{settingsIn, isSettings}
 use Rattle.files.specs.kernel.Fields.{headerIn}
 use Rattle.files.specs.Calls.{listIn, readRefusalOf, fileFor}
@@ -48,11 +48,8 @@ fileRefusal file = orElse (sizeRefusal file) (readRefusalOf file most)
 unfoldable pub listToText : List ℕ → List ℕ
 listToText file = output (fileRefusal file) (valueLines (listIn file))
 
--- "The other reads the lanes, mode and first lines and then one value a line": the text of the list vs
-abbrev pub textOf : ℕ → Mode → List ℕ → List ℕ
-textOf L m vs = settings L m (valueLines vs)
-
--- a sound text: what some lanes, mode, first and values write
+-- "The other reads the lanes, mode and first lines and then one value a line": a sound text is what some lanes, mode, first and values
+-- write
 pub record IsText (text : List ℕ) (L : ℕ) (m : Mode) (vs : List ℕ) : Type 0 where
   pub sets : Sets text L m (valueLines vs)
   pub values : Below (2 ^ 32) vs

@@ -33,19 +33,25 @@ returns-2 c =
     let s = e .before .before .before in
     out-is (file-refused (s .args .file .now) (e .if1 .left) _ (ap (λ (a : Answer). a .refusal) (d .read .ensures .0)) (sym (i .is-accepted .ensures) ∙ not-true _ (t .if2 .taken))) (s .args .out .now) (r .refuse2 .ensures)
 
-good : (c : tie.Else2) → accepted (readRefusalOf (c .before .before .before .before .before .before .before .before .args .file .now) most) ≡ true
+abbrev start : tie.Else2 → tie.Start
+start c = c .before .before .before .before .before .before .before .before
+
+-- what was read
+abbrev was : tie.Else2 → tie.After-read
+was c = c .before .before .before
+
+good : (c : tie.Else2) → accepted (readRefusalOf (start c .args .file .now) most) ≡ true
 good c =
     let i = c .before in
     ap (λ (a : Answer). accepted (a .refusal)) (sym (i .before .before .read .ensures .0)) ∙ sym (i .is-accepted .ensures) ∙ not-false _ (c .if2 .left)
 
-told : (c : tie.Else2) → (c .before .before .before .read .result .length ≡ length (listIn (c .before .before .before .before .before .before .before .before .args .file .now))) × (take (c .before .before .before .read .result .length) (c .before .before .before .read .last .1 .0) ≡ listIn (c .before .before .before .before .before .before .before .before .args .file .now))
+told : (c : tie.Else2) → (was c .read .result .length ≡ length (listIn (start c .args .file .now))) × (take (was c .read .result .length) (was c .read .last .1 .0) ≡ listIn (start c .args .file .now))
 told c =
-    let d = c .before .before .before in
-    let f = d .before .before .before .before .before .args .file .now in
-    list-told f (good c) (replicate 4096 0) (d .read .result) (d .read .last .1 .0) (d .read .ensures .0) (d .read .ensures .1) refl
+    let d = was c in
+    list-told (start c .args .file .now) (good c) (replicate 4096 0) (d .read .result) (d .read .last .1 .0) (d .read .ensures .0) (d .read .ensures .1) refl
 
-within : (c : tie.Else2) → c .before .before .before .read .result .length ≤ length (c .before .before .before .read .last .1 .0)
-within c = omega (arith, told c .0, list-few (c .before .before .before .before .before .before .before .before .args .file .now) (good c), c .before .before .before .read .kept)
+within : (c : tie.Else2) → was c .read .result .length ≤ length (was c .read .last .1 .0)
+within c = omega (arith, told c .0, list-few (start c .args .file .now) (good c), was c .read .kept)
 
 array-share-prefix-values : tie.Need-array-share-prefix-values
 array-share-prefix-values c = within c
@@ -56,7 +62,7 @@ slice-aggregate-hand-out-values c = sym (length-take-le _ (c .before .before .be
 hand-out-values-requires : tie.Need-hand-out-values-requires
 hand-out-values-requires c κs =
     let e = c .before .before in
-    rw (told e .1) (list-few (e .before .before .before .before .before .before .before .before .args .file .now) (good e))
+    rw (told e .1) (list-few (start e .args .file .now) (good e))
 
 returns-3 : tie.Need-returns-3
 returns-3 c =

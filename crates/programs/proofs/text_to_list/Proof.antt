@@ -35,18 +35,21 @@ returns-2 c =
     let s = e .before .before .before in
     out-is (no-settings (s .args .text .now) (e .if1 .left) _ (g .settings .ensures) (sym (i .is-accepted .ensures) ∙ not-true _ (t .if2 .taken))) (s .args .out .now) (r .refuse2 .ensures)
 
+abbrev start : tie.Else2 → tie.Start
+start c = c .before .before .before .before .before .before
+
 -- the settings are there
-found : (c : tie.Else2) → (isSettings (c .before .before .before .before .before .before .args .text .now) ≡ true) × (c .before .before .settings .result ≡ record { refusal = Accepted; lanes = headerIn (c .before .before .before .before .before .before .args .text .now) .lanes; mode = headerIn (c .before .before .before .before .before .before .args .text .now) .mode; length = length (settingsIn (c .before .before .before .before .before .before .args .text .now)) })
+found : (c : tie.Else2) → (isSettings (start c .args .text .now) ≡ true) × (c .before .before .settings .result ≡ record { refusal = Accepted; lanes = headerIn (start c .args .text .now) .lanes; mode = headerIn (start c .args .text .now) .mode; length = length (settingsIn (start c .args .text .now)) })
 found c =
     let i = c .before in
     let g = i .before in
     let e = g .before in
     is-settings (e .before .before .before .args .text .now) (e .if1 .left) _ (g .settings .ensures) (sym (i .is-accepted .ensures) ∙ not-false _ (c .if2 .left))
 
-far : (c : tie.Else2) → c .before .before .settings .result .length ≡ length (settingsIn (c .before .before .before .before .before .before .args .text .now))
+far : (c : tie.Else2) → c .before .before .settings .result .length ≡ length (settingsIn (start c .args .text .now))
 far c = ap (λ (t : Packing). t .length) (found c .1)
 
-within : (c : tie.Else2) → c .before .before .settings .result .length ≤ length (c .before .before .before .before .before .before .args .text .now)
+within : (c : tie.Else2) → c .before .before .settings .result .length ≤ length (start c .args .text .now)
 within c =
     let e = c .before .before .before in
     omega (arith, far c, settings-within (e .before .before .before .args .text .now) (e .if1 .left) (found c .0))
@@ -58,11 +61,10 @@ part-read-values-start : tie.Need-part-read-values-start
 part-read-values-start c = within c
 
 -- and what stands behind them was read
-told : (c : tie.After-read-values) → LinesTold (c .before .before .before .before .before .before .before .before .before .args .text .now) (replicate 4096 0) (c .read-values .result) (c .read-values .last .1 .0)
+told : (c : tie.After-read-values) → LinesTold (start (c .before .before .before) .args .text .now) (replicate 4096 0) (c .read-values .result) (c .read-values .last .1 .0)
 told c =
     let e = c .before .before .before in
-    let s = e .before .before .before .before .before .before in
-    lines-told (s .args .text .now) (replicate 4096 0) _ (far e) (c .read-values .result) (c .read-values .last .1 .0) (c .read-values .ensures)
+    lines-told (start e .args .text .now) (replicate 4096 0) _ (far e) (c .read-values .result) (c .read-values .last .1 .0) (c .read-values .ensures)
 
 returns-3 : tie.Need-returns-3
 returns-3 c =

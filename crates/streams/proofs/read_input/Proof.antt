@@ -1,6 +1,7 @@
 -- As many bytes as were read lie within the buffer, whose length stays.
 use mathlib.Core.Path.{_≡_, _∙_}
-use Prim.Native.Nat.{_+_, _-_, _≤_}
+use mathlib.Core.List.{List}
+use Prim.Native.Nat.{ℕ, _+_, _-_, _≤_}
 use native.Mathlib.Nat.{le-refl}
 use native.Mathlib.Omega.{arith}
 use lib.ListN.{length}
@@ -16,60 +17,57 @@ Inv-loop bytes₀ done₀ bytes done = (done ≤ length bytes) × (length bytes 
 abbrev μ-loop : tie.MeasureT-loop
 μ-loop bytes₀ done₀ bytes done = length bytes - done
 
--- the buffer, with what was read
-same : (c : tie.After-slice-known2 Inv-loop μ-loop) → length (putMid (c .before .before .before .before .before .loop .done) (length (c .before .before .before .before .before .loop .bytes) - c .before .before .before .before .before .loop .done) (c .before .before .before .before .before .loop .bytes) (c .before .before .read .last .1 .0)) ≡ length (c .before .before .before .before .before .loop .bytes)
-same c =
-    let r = c .before .before in
-    let l = r .before .before .before in
-    same-len-mid (l .loop .done) (length (l .loop .bytes) - l .loop .done) (l .loop .bytes) (r .read .last .1 .0) (r .read .kept .1 .0)
+-- where a turn began, and the buffer with what was read
+abbrev turn : tie.After-read Inv-loop μ-loop → tie.At-loop Inv-loop μ-loop
+turn r = r .before .before .before
 
-kept : (c : tie.After-slice-known2 Inv-loop μ-loop) → length (putMid (c .before .before .before .before .before .loop .done) (length (c .before .before .before .before .before .loop .bytes) - c .before .before .before .before .before .loop .done) (c .before .before .before .before .before .loop .bytes) (c .before .before .read .last .1 .0)) ≡ length (c .before .before .before .before .before .before .before .args .bytes .now)
-kept c = same c ∙ c .before .before .before .before .before .loop .inv .1
+abbrev filled : tie.After-read Inv-loop μ-loop → List ℕ
+filled r = putMid (turn r .loop .done) (length (turn r .loop .bytes) - turn r .loop .done) (turn r .loop .bytes) (r .read .last .1 .0)
+
+same : (r : tie.After-read Inv-loop μ-loop) → length (filled r) ≡ length (turn r .loop .bytes)
+same r = same-len-mid (turn r .loop .done) (length (turn r .loop .bytes) - turn r .loop .done) (turn r .loop .bytes) (r .read .last .1 .0) (r .read .kept .1 .0)
+
+kept : (r : tie.After-read Inv-loop μ-loop) → length (filled r) ≡ length (turn r .before .before .args .bytes .now)
+kept r = same r ∙ turn r .loop .inv .1
+
+within : (r : tie.After-read Inv-loop μ-loop) → turn r .loop .done ≤ length (filled r)
+within r = omega (arith, same r, turn r .loop .inv .0)
 
 same-length : tie.Need-same-length Inv-loop μ-loop
-same-length c = kept (c .before)
+same-length c = kept (c .before .before .before)
 
 returns : tie.Need-returns Inv-loop μ-loop
 returns c = counts _ _ (omega arith)
 
--- which is as long as it was
 sub-count : tie.Need-sub-count Inv-loop μ-loop
-sub-count c =
-    let k = c .before in
-    omega (arith, same k, k .before .before .before .before .before .loop .inv .0)
+sub-count c = within (c .before .before .before)
 
 part-count-start : tie.Need-part-count-start Inv-loop μ-loop
-part-count-start c =
-    let k = c .before .before in
-    omega (arith, same k, k .before .before .before .before .before .loop .inv .0)
+part-count-start c = within (c .before .before .before .before)
 
 same-length-2 : tie.Need-same-length-2 Inv-loop μ-loop
-same-length-2 c = kept (c .before .before .before .before .before)
+same-length-2 c = kept (c .before .before .before .before .before .before .before)
 
 returns-2 : tie.Need-returns-2 Inv-loop μ-loop
-returns-2 c =
-    let k = c .before .before .before .before .before in
-    counts _ _ (omega (arith, same k, k .before .before .before .before .before .loop .inv .0))
+returns-2 c = counts _ _ (within (c .before .before .before .before .before .before .before))
 
 -- with what `count` counted
-more : (c : tie.Else2 Inv-loop μ-loop) → c .before .before .before .before .before .before .before .before .before .before .loop .done + c .before .count .result ≤ length (putMid (c .before .before .before .before .before .before .before .before .before .before .loop .done) (length (c .before .before .before .before .before .before .before .before .before .before .loop .bytes) - c .before .before .before .before .before .before .before .before .before .before .loop .done) (c .before .before .before .before .before .before .before .before .before .before .loop .bytes) (c .before .before .before .before .before .before .before .read .last .1 .0))
+abbrev read-before : tie.Else2 Inv-loop μ-loop → tie.After-read Inv-loop μ-loop
+read-before c = c .before .before .before .before .before .before .before
+
+more : (c : tie.Else2 Inv-loop μ-loop) → turn (read-before c) .loop .done + c .before .count .result ≤ length (filled (read-before c))
 more c =
-    let k = c .before .before .before .before .before in
-    let r = k .before .before in
-    let l = r .before .before .before in
-    let xs = putMid (l .loop .done) (length (l .loop .bytes) - l .loop .done) (l .loop .bytes) (r .read .last .1 .0) in
-    omega (arith, c .before .count .ensures .0 .0, mid-len (l .loop .done) (length xs) xs (le-refl (length xs)), same k, l .loop .inv .0)
+    let r = read-before c in
+    omega (arith, c .before .count .ensures .0 .0, mid-len (turn r .loop .done) (length (filled r)) (filled r) (le-refl (length (filled r))), within r)
 
 add-done : tie.Need-add-done Inv-loop μ-loop
 add-done c = omega (arith, more c)
 
 loop-less : tie.Need-loop-less Inv-loop μ-loop
-loop-less c =
-    let k = c .before .before .before .before .before in
-    omega (arith, more c, same k, c .if2 .left)
+loop-less c = omega (arith, more c, same (read-before c), c .if2 .left)
 
 loop-again : tie.Need-loop-again Inv-loop μ-loop
-loop-again c = (more c, kept (c .before .before .before .before .before))
+loop-again c = (more c, kept (read-before c))
 
 returns-3 : tie.Need-returns-3 Inv-loop μ-loop
 returns-3 c = counts _ _ (c .before .loop .inv .0)

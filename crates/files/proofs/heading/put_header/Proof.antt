@@ -16,111 +16,147 @@ use borrow.Author.Needs.{needs}
 use Rattle.files.proofs.heading.put_header.Statement.{statement}
 use Rattle.files.proofs.heading.put_header.Tie as tie
 
+-- from the place behind a part to the place behind the one before
+abbrev start : tie.After-put-settings → tie.Start
+start n = n .before .before .before
+
+abbrev first : tie.After-number-line → tie.After-put-settings
+first m = m .before .before .before .before .before
+
+abbrev second : tie.After-number-line2 → tie.After-number-line
+second f = f .before .before .before .before .before
+
+-- the settings and two lines
+abbrev part₁ : tie.Start → List ℕ
+part₁ s = settings (s .args .header .lanes) (s .args .header .mode) []
+
+abbrev part₂ : tie.Start → List ℕ
+part₂ s = line "count=" (decimal (s .args .header .count)) []
+
+abbrev part₃ : tie.Start → List ℕ
+part₃ s = line "bytes=" (decimal (s .args .header .bytes)) []
+
+-- where each ends
+abbrev end₁ : tie.After-put-settings → ℕ
+end₁ n = n .put-settings .result
+
+abbrev end₂ : tie.After-number-line → ℕ
+end₂ m = end₁ (first m) + m .number-line .result
+
+abbrev end₃ : tie.After-number-line2 → ℕ
+end₃ f = end₂ (second f) + f .number-line2 .result
+
+-- the output with one of them, with two, and with three
+abbrev out₁ : tie.After-put-settings → List ℕ
+out₁ n = n .put-settings .last .1 .1 .0
+
+abbrev out₂ : tie.After-number-line → List ℕ
+out₂ m = putMid (end₁ (first m)) (length (out₁ (first m)) - end₁ (first m)) (out₁ (first m)) (m .number-line .last .1 .1 .0)
+
+abbrev out₃ : tie.After-number-line2 → List ℕ
+out₃ f = putMid (end₂ (second f)) (length (out₂ (second f)) - end₂ (second f)) (out₂ (second f)) (f .number-line2 .last .1 .1 .0)
+
 -- there is room for them
-room : (s : tie.Start) → length (settings (s .args .header .lanes) (s .args .header .mode) []) + length (line "count=" (decimal (s .args .header .count)) []) + length (line "bytes=" (decimal (s .args .header .bytes)) []) ≤ length (s .args .out .now)
+room : (s : tie.Start) → length (part₁ s) + length (part₂ s) + length (part₃ s) ≤ length (s .args .out .now)
 room s = omega (arith, s .pre, settings-short (s .args .header .lanes) (s .args .header .mode), number-line-short (word "count=") (s .args .header .count), number-line-short (word "bytes=") (s .args .header .bytes))
 
 put-settings-requires : tie.Need-put-settings-requires
 put-settings-requires c κs = omega (arith, c .before .before .pre)
 
 -- behind the settings
-short : (c : tie.After-slice-known2) → c .before .before .put-settings .result ≤ 46
-short c = omega (arith, c .before .before .put-settings .ensures .0, settings-short (c .before .before .before .before .before .args .header .lanes) (c .before .before .before .before .before .args .header .mode))
+short : (n : tie.After-put-settings) → end₁ n ≤ 46
+short n = omega (arith, n .put-settings .ensures .0, settings-short (start n .args .header .lanes) (start n .args .header .mode))
 
-kept : (c : tie.After-slice-known2) → length (c .before .before .put-settings .last .1 .1 .0) ≡ length (c .before .before .before .before .before .args .out .now)
-kept c =
-    let n = c .before .before in
-    let s = n .before .before .before in
-    one-length (settings (s .args .header .lanes) (s .args .header .mode) []) (line "count=" (decimal (s .args .header .count)) []) (line "bytes=" (decimal (s .args .header .bytes)) []) (s .args .out .now) (n .put-settings .last .1 .1 .0) _ (room s) (n .put-settings .ensures .0) (n .put-settings .ensures .1)
+kept : (n : tie.After-put-settings) → length (out₁ n) ≡ length (start n .args .out .now)
+kept n =
+    let s = start n in
+    one-length (part₁ s) (part₂ s) (part₃ s) (s .args .out .now) (out₁ n) _ (room s) (n .put-settings .ensures .0) (n .put-settings .ensures .1)
+
+within : (n : tie.After-put-settings) → end₁ n ≤ length (out₁ n)
+within n = omega (arith, short n, kept n, start n .pre)
 
 sub-number-line : tie.Need-sub-number-line
-sub-number-line c = omega (arith, short (c .before), kept (c .before), c .before .before .before .before .before .before .pre)
+sub-number-line c = within (c .before .before .before)
 
 part-number-line-start : tie.Need-part-number-line-start
-part-number-line-start c = omega (arith, short (c .before), kept (c .before), c .before .before .before .before .before .before .pre)
+part-number-line-start c = within (c .before .before .before)
 
 number-line-requires : tie.Need-number-line-requires
 number-line-requires c κs =
-    let k = c .before .before in
-    omega (arith, short k, kept k, k .before .before .before .before .before .pre, part-length (k .before .before .put-settings .result) (k .before .before .put-settings .last .1 .1 .0))
+    let n = c .before .before .before .before in
+    omega (arith, short n, kept n, start n .pre, part-length (end₁ n) (out₁ n))
 
 -- behind the count
-short′ : (c : tie.After-slice-known3) → c .before .before .number-line .result ≤ 17
-short′ c = omega (arith, c .before .before .number-line .ensures .0, number-line-short (word "count=") (c .before .before .before .before .before .before .before .before .before .before .args .header .count))
+short′ : (m : tie.After-number-line) → end₂ m ≤ 63
+short′ m = omega (arith, short (first m), m .number-line .ensures .0, number-line-short (word "count=") (start (first m) .args .header .count))
 
-kept′ : (c : tie.After-slice-known3) → length (putMid (c .before .before .before .before .before .before .before .put-settings .result) (length (c .before .before .before .before .before .before .before .put-settings .last .1 .1 .0) - c .before .before .before .before .before .before .before .put-settings .result) (c .before .before .before .before .before .before .before .put-settings .last .1 .1 .0) (c .before .before .number-line .last .1 .1 .0)) ≡ length (c .before .before .before .before .before .before .before .before .before .before .args .out .now)
-kept′ c =
-    let m = c .before .before in
-    let n = m .before .before .before .before .before in
-    let s = n .before .before .before in
-    two-length (settings (s .args .header .lanes) (s .args .header .mode) []) (line "count=" (decimal (s .args .header .count)) []) (line "bytes=" (decimal (s .args .header .bytes)) []) (s .args .out .now) (n .put-settings .last .1 .1 .0) _ (room s) (n .put-settings .ensures .0) (n .put-settings .ensures .1)
+kept′ : (m : tie.After-number-line) → length (out₂ m) ≡ length (start (first m) .args .out .now)
+kept′ m =
+    let n = first m in
+    let s = start n in
+    two-length (part₁ s) (part₂ s) (part₃ s) (s .args .out .now) (out₁ n) _ (room s) (n .put-settings .ensures .0) (n .put-settings .ensures .1)
     _ (m .number-line .last .1 .1 .0) (m .number-line .ensures .0) (m .number-line .ensures .1)
 
+within′ : (m : tie.After-number-line) → end₂ m ≤ length (out₂ m)
+within′ m = omega (arith, short′ m, kept′ m, start (first m) .pre)
+
 add-second : tie.Need-add-second
-add-second c = omega (arith, short (c .before .before .before .before .before), short′ c)
+add-second c = omega (arith, short′ (c .before .before))
 
 sub-number-line-2 : tie.Need-sub-number-line-2
-sub-number-line-2 c =
-    let k = c .before in
-    omega (arith, short (k .before .before .before .before .before), short′ k, kept′ k, k .before .before .before .before .before .before .before .before .before .before .pre)
+sub-number-line-2 c = within′ (c .before .before .before)
 
 part-number-line-start-2 : tie.Need-part-number-line-start-2
-part-number-line-start-2 c =
-    let k = c .before in
-    omega (arith, short (k .before .before .before .before .before), short′ k, kept′ k, k .before .before .before .before .before .before .before .before .before .before .pre)
+part-number-line-start-2 c = within′ (c .before .before .before)
 
 number-line-requires-2 : tie.Need-number-line-requires-2
 number-line-requires-2 c κs =
-    let k = c .before .before in
-    let n = k .before .before .before .before .before .before .before in
-    omega (
-      arith,
-      short (k .before .before .before .before .before),
-      short′ k,
-      kept′ k,
-      k .before .before .before .before .before .before .before .before .before .before .pre,
-      part-length (n .put-settings .result + k .before .before .number-line .result) (putMid (n .put-settings .result) (length (n .put-settings .last .1 .1 .0) - n .put-settings .result) (n .put-settings .last .1 .1 .0) (k .before .before .number-line .last .1 .1 .0)),
-    )
+    let m = c .before .before .before .before in
+    omega (arith, short′ m, kept′ m, start (first m) .pre, part-length (end₂ m) (out₂ m))
 
 -- all three
-there : (c : tie.After-slice-known4) → Three (settings (c .before .before .before .before .before .before .before .before .before .before .before .before .before .before .before .args .header .lanes) (c .before .before .before .before .before .before .before .before .before .before .before .before .before .before .before .args .header .mode) []) (line "count=" (decimal (c .before .before .before .before .before .before .before .before .before .before .before .before .before .before .before .args .header .count)) []) (line "bytes=" (decimal (c .before .before .before .before .before .before .before .before .before .before .before .before .before .before .before .args .header .bytes)) []) (c .before .before .before .before .before .before .before .before .before .before .before .before .before .before .before .args .out .now) (c .before .before .before .before .before .before .before .before .before .before .before .before .put-settings .result + c .before .before .before .before .before .before .before .number-line .result + c .before .before .number-line2 .result) (putMid (c .before .before .before .before .before .before .before .before .before .before .before .before .put-settings .result + c .before .before .before .before .before .before .before .number-line .result) (length (putMid (c .before .before .before .before .before .before .before .before .before .before .before .before .put-settings .result) (length (c .before .before .before .before .before .before .before .before .before .before .before .before .put-settings .last .1 .1 .0) - c .before .before .before .before .before .before .before .before .before .before .before .before .put-settings .result) (c .before .before .before .before .before .before .before .before .before .before .before .before .put-settings .last .1 .1 .0) (c .before .before .before .before .before .before .before .number-line .last .1 .1 .0)) - (c .before .before .before .before .before .before .before .before .before .before .before .before .put-settings .result + c .before .before .before .before .before .before .before .number-line .result)) (putMid (c .before .before .before .before .before .before .before .before .before .before .before .before .put-settings .result) (length (c .before .before .before .before .before .before .before .before .before .before .before .before .put-settings .last .1 .1 .0) - c .before .before .before .before .before .before .before .before .before .before .before .before .put-settings .result) (c .before .before .before .before .before .before .before .before .before .before .before .before .put-settings .last .1 .1 .0) (c .before .before .before .before .before .before .before .number-line .last .1 .1 .0)) (c .before .before .number-line2 .last .1 .1 .0))
-there c =
-    let f = c .before .before in
-    let m = f .before .before .before .before .before in
-    let n = m .before .before .before .before .before in
-    let s = n .before .before .before in
-    three (settings (s .args .header .lanes) (s .args .header .mode) []) (line "count=" (decimal (s .args .header .count)) []) (line "bytes=" (decimal (s .args .header .bytes)) []) (s .args .out .now) (n .put-settings .last .1 .1 .0) _ (room s) (n .put-settings .ensures .0) (n .put-settings .ensures .1)
+there : (f : tie.After-number-line2) → Three (part₁ (start (first (second f)))) (part₂ (start (first (second f)))) (part₃ (start (first (second f)))) (start (first (second f)) .args .out .now) (end₃ f) (out₃ f)
+there f =
+    let m = second f in
+    let n = first m in
+    let s = start n in
+    three (part₁ s) (part₂ s) (part₃ s) (s .args .out .now) (out₁ n) _ (room s) (n .put-settings .ensures .0) (n .put-settings .ensures .1)
     _ (m .number-line .last .1 .1 .0) (m .number-line .ensures .0) (m .number-line .ensures .1) _ (f .number-line2 .last .1 .1 .0) (f .number-line2 .ensures .0) (f .number-line2 .ensures .1)
 
 -- and they are 80 bytes at most
-fewer : (c : tie.After-slice-known4) → c .before .before .before .before .before .before .before .before .before .before .before .before .put-settings .result + c .before .before .before .before .before .before .before .number-line .result + c .before .before .number-line2 .result ≤ 80
-fewer c =
-    let f = c .before .before in
-    omega (arith, short (f .before .before .before .before .before .before .before .before), short′ (f .before .before .before), f .number-line2 .ensures .0, number-line-short (word "bytes=") (c .before .before .before .before .before .before .before .before .before .before .before .before .before .before .before .args .header .bytes))
+fewer : (f : tie.After-number-line2) → end₃ f ≤ 80
+fewer f = omega (arith, short′ (second f), f .number-line2 .ensures .0, number-line-short (word "bytes=") (start (first (second f)) .args .header .bytes))
 
 add-third : tie.Need-add-third
-add-third c = omega (arith, fewer c)
+add-third c = omega (arith, fewer (c .before .before))
 
 slice-write-out : tie.Need-slice-write-out
-slice-write-out c = omega (arith, fewer c, there c .kept, c .before .before .before .before .before .before .before .before .before .before .before .before .before .before .before .pre)
+slice-write-out c =
+    let f = c .before .before in
+    omega (arith, fewer f, there f .kept, start (first (second f)) .pre)
 
 add-result : tie.Need-add-result
-add-result c = omega (arith, fewer c)
+add-result c = omega (arith, fewer (c .before .before))
 
 -- with byte 10 behind them
-whole : (c : tie.After-slice-known4) → Front (((settings (c .before .before .before .before .before .before .before .before .before .before .before .before .before .before .before .args .header .lanes) (c .before .before .before .before .before .before .before .before .before .before .before .before .before .before .before .args .header .mode) []) ++ ((line "count=" (decimal (c .before .before .before .before .before .before .before .before .before .before .before .before .before .before .before .args .header .count)) []) ++ (line "bytes=" (decimal (c .before .before .before .before .before .before .before .before .before .before .before .before .before .before .before .args .header .bytes)) []))) ++ (10 ∷ [])) (c .before .before .before .before .before .before .before .before .before .before .before .before .before .before .before .args .out .now) (set (putMid (c .before .before .before .before .before .before .before .before .before .before .before .before .put-settings .result + c .before .before .before .before .before .before .before .number-line .result) (length (putMid (c .before .before .before .before .before .before .before .before .before .before .before .before .put-settings .result) (length (c .before .before .before .before .before .before .before .before .before .before .before .before .put-settings .last .1 .1 .0) - c .before .before .before .before .before .before .before .before .before .before .before .before .put-settings .result) (c .before .before .before .before .before .before .before .before .before .before .before .before .put-settings .last .1 .1 .0) (c .before .before .before .before .before .before .before .number-line .last .1 .1 .0)) - (c .before .before .before .before .before .before .before .before .before .before .before .before .put-settings .result + c .before .before .before .before .before .before .before .number-line .result)) (putMid (c .before .before .before .before .before .before .before .before .before .before .before .before .put-settings .result) (length (c .before .before .before .before .before .before .before .before .before .before .before .before .put-settings .last .1 .1 .0) - c .before .before .before .before .before .before .before .before .before .before .before .before .put-settings .result) (c .before .before .before .before .before .before .before .before .before .before .before .before .put-settings .last .1 .1 .0) (c .before .before .before .before .before .before .before .number-line .last .1 .1 .0)) (c .before .before .number-line2 .last .1 .1 .0)) (c .before .before .before .before .before .before .before .before .before .before .before .before .put-settings .result + c .before .before .before .before .before .before .before .number-line .result + c .before .before .number-line2 .result) 10)
-whole c = front-put (there c .text) _ (sym (there c .answer)) 10 (omega (arith, fewer c, c .before .before .before .before .before .before .before .before .before .before .before .before .before .before .before .pre))
+abbrev parts : tie.Start → List ℕ
+parts s = part₁ s ++ (part₂ s ++ part₃ s)
+
+whole : (f : tie.After-number-line2) → Front (parts (start (first (second f))) ++ (10 ∷ [])) (start (first (second f)) .args .out .now) (set (out₃ f) (end₃ f) 10)
+whole f = front-put (there f .text) (end₃ f) (sym (there f .answer)) 10 (omega (arith, fewer f, start (first (second f)) .pre))
+
+whole-length : (f : tie.After-number-line2) → length (parts (start (first (second f))) ++ (10 ∷ [])) ≡ end₃ f + 1
+whole-length f = length-append (parts (start (first (second f)))) (10 ∷ []) ∙ ap (λ (n : ℕ). n + 1) (sym (there f .answer))
 
 same-length : tie.Need-same-length
-same-length c =
-    let t = there c .answer in
-    front-length (whole c) _ (length-append (settings (c .before .before .before .before .before .before .before .before .before .before .before .before .before .before .before .args .header .lanes) (c .before .before .before .before .before .before .before .before .before .before .before .before .before .before .before .args .header .mode) [] ++ (line "count=" (decimal (c .before .before .before .before .before .before .before .before .before .before .before .before .before .before .before .args .header .count)) [] ++ line "bytes=" (decimal (c .before .before .before .before .before .before .before .before .before .before .before .before .before .before .before .args .header .bytes)) [])) (10 ∷ []) ∙ ap (λ (n : ℕ). n + 1) (sym t))
+same-length c = front-length (whole (c .before .before)) _ (whole-length (c .before .before))
 
 returns : tie.Need-returns
 returns c =
-    let h = c .before .before .before .before .before .before .before .before .before .before .before .before .before .before .before .args .header in
-    let e = header-are h [] in
-    (ap (λ (n : ℕ). n + 1) (there c .answer) ∙ sym (length-append (settings (c .before .before .before .before .before .before .before .before .before .before .before .before .before .before .before .args .header .lanes) (c .before .before .before .before .before .before .before .before .before .before .before .before .before .before .before .args .header .mode) [] ++ (line "count=" (decimal (c .before .before .before .before .before .before .before .before .before .before .before .before .before .before .before .args .header .count)) [] ++ line "bytes=" (decimal (c .before .before .before .before .before .before .before .before .before .before .before .before .before .before .before .args .header .bytes)) [])) (10 ∷ [])) ∙ ap length e, whole c .here ∙ ap (λ (t : List ℕ). over t (c .before .before .before .before .before .before .before .before .before .before .before .before .before .before .before .args .out .now)) e)
+    let f = c .before .before in
+    let s = start (first (second f)) in
+    let e = header-are (s .args .header) [] in
+    (sym (whole-length f) ∙ ap length e, whole f .here ∙ ap (λ (t : List ℕ). over t (s .args .out .now)) e)
 
 pub put-header-spec : {M : Type 1} → statement M
 put-header-spec =

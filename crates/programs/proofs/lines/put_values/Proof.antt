@@ -1,5 +1,6 @@
 -- The lines of the first i values are there.
-use Prim.Native.Nat.{_+_, _-_}
+use mathlib.Core.List.{List}
+use Prim.Native.Nat.{ℕ, _+_, _-_}
 use native.Mathlib.Omega.{arith}
 use lib.ListN.{length}
 use borrow.Rule.Slice.PartMut.{putMid}
@@ -29,22 +30,27 @@ part-put-number-line-start c =
     let l = i .before in
     omega (arith, writing-room (l .loop .inv) (l .before .before .before .pre) (i .loop-test .taken))
 
--- and the line of the next
-next : (c : tie.After-slice-known2 Inv-loop μ-loop) → Writing (c .before .before .before .before .before .before .before .before .before .before .args .values .now) (c .before .before .before .before .before .before .before .before .before .before .args .out .now) (c .before .before .before .before .before .before .before .loop .i + 1) (c .before .before .before .before .before .before .before .loop .length + c .before .before .put-number-line .result) (putMid (c .before .before .before .before .before .before .before .loop .length) (length (c .before .before .before .before .before .before .before .loop .out) - c .before .before .before .before .before .before .before .loop .length) (c .before .before .before .before .before .before .before .loop .out) (c .before .before .put-number-line .last .1 .1 .0))
-next c =
-    let p = c .before .before in
-    let i = p .before .before .before .before in
-    let l = i .before in
-    writing-more (l .loop .inv) (l .before .before .before .pre) (i .loop-test .taken) _ (p .put-number-line .last .1 .1 .0) (p .put-number-line .ensures)
+-- where a turn began
+abbrev turn : tie.After-put-number-line Inv-loop μ-loop → tie.In-loop Inv-loop μ-loop
+turn p = p .before .before .before .before
+
+abbrev start : tie.After-put-number-line Inv-loop μ-loop → tie.Start Inv-loop μ-loop
+start p = turn p .before .before .before .before
+
+-- and the line of the next value
+abbrev longer : tie.After-put-number-line Inv-loop μ-loop → List ℕ
+longer p = putMid (turn p .before .loop .length) (length (turn p .before .loop .out) - turn p .before .loop .length) (turn p .before .loop .out) (p .put-number-line .last .1 .1 .0)
+
+next : (p : tie.After-put-number-line Inv-loop μ-loop) → Writing (start p .args .values .now) (start p .args .out .now) (turn p .before .loop .i + 1) (turn p .before .loop .length + p .put-number-line .result) (longer p)
+next p = writing-more (turn p .before .loop .inv) (start p .pre) (turn p .loop-test .taken) _ (p .put-number-line .last .1 .1 .0) (p .put-number-line .ensures)
 
 add-length : tie.Need-add-length Inv-loop μ-loop
 add-length c =
-    let i = c .before .before .before .before .before .before in
-    let s = i .before .before .before .before in
-    omega (arith, writing-short (next c) (s .pre), next c .some, s .pre)
+    let p = c .before .before in
+    omega (arith, writing-short (next p) (start p .pre), next p .some, start p .pre)
 
 loop-again : tie.Need-loop-again Inv-loop μ-loop
-loop-again c = next c
+loop-again c = next (c .before .before)
 
 same-length : tie.Need-same-length Inv-loop μ-loop
 same-length c = writing-length (c .before .loop .inv) (c .before .before .before .before .pre)

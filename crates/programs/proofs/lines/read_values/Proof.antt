@@ -35,35 +35,41 @@ returns c =
     let i = k .before .before .before in
     reading-stop (i .before .loop .inv) (i .loop-test .taken) (told k .none (c .if1 .taken))
 
+-- where a turn began, and its line
+abbrev found : tie.After-keep Inv-loop μ-loop → tie.After-line-length Inv-loop μ-loop
+found k = k .before .before .before
+
+abbrev turn : tie.After-keep Inv-loop μ-loop → tie.In-loop Inv-loop μ-loop
+turn k = found k .before .before .before
+
+abbrev start : tie.After-keep Inv-loop μ-loop → tie.Start Inv-loop μ-loop
+start k = turn k .before .before .before .before
+
 -- with the next line
-next : (c : tie.After-slice-known2 Inv-loop μ-loop) → Reading (c .before .before .before .before .before .before .before .before .before .before .before .before .args .bytes .now) (c .before .before .before .before .before .before .before .before .before .before .before .before .args .values .now) (c .before .before .before .before .before .before .before .before .before .loop .place + c .before .before .before .before .before .line-length .result) (c .before .before .before .before .before .before .before .before .before .loop .count + 1) (c .before .before .keep .last .1 .1 .0)
-next c =
-    let k = c .before .before in
+next : (k : tie.After-keep Inv-loop μ-loop) → Reading (start k .args .bytes .now) (start k .args .values .now) (turn k .before .loop .place + found k .line-length .result) (turn k .before .loop .count + 1) (k .keep .last .1 .1 .0)
+next k =
     let e = k .before .before in
-    let n = e .before in
+    let n = found k in
     let f = n .before .before in
-    let i = f .before in
-    let l = i .before in
-    let v : f .field .result ≡ fieldAt (l .before .before .before .args .bytes .now) (l .loop .place) = f .field .ensures in
-    rw (told n .long (e .if1 .left)) (reading-more (l .loop .inv) (i .loop-test .taken) (told n .some (e .if1 .left)) (rw v at (k .keep .ensures)))
+    let l = turn k .before in
+    let v : f .field .result ≡ fieldAt (start k .args .bytes .now) (l .loop .place) = f .field .ensures in
+    reading-more (l .loop .inv) (turn k .loop-test .taken) (told n .some (e .if1 .left)) _ (told n .long (e .if1 .left)) (rw v at (k .keep .ensures))
 
 add-count : tie.Need-add-count Inv-loop μ-loop
 add-count c =
-    let n = next c in
+    let n = next (c .before .before) in
     omega (arith, n .fewer, reading-within n)
 
 add-place : tie.Need-add-place Inv-loop μ-loop
-add-place c = omega (arith, reading-within (next c))
+add-place c = omega (arith, reading-within (next (c .before .before)))
 
 loop-less : tie.Need-loop-less Inv-loop μ-loop
 loop-less c =
-    let e = c .before .before .before .before in
-    let n = e .before in
-    let l = n .before .before .before .before in
-    omega (arith, reading-within (next c), told n .long (e .if1 .left), line-some (fieldAt (l .before .before .before .args .bytes .now) (l .loop .place)))
+    let k = c .before .before in
+    omega (arith, reading-within (next k), told (found k) .long (k .before .before .if1 .left), line-some (fieldAt (start k .args .bytes .now) (turn k .before .loop .place)))
 
 loop-again : tie.Need-loop-again Inv-loop μ-loop
-loop-again c = next c
+loop-again c = next (c .before .before)
 
 same-length-2 : tie.Need-same-length-2 Inv-loop μ-loop
 same-length-2 c = reading-length (c .before .loop .inv)

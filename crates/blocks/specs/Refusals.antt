@@ -27,3 +27,7 @@ accepted k = eqb (numberOf k) 0
 -- "The first that applies in this order is given, and none otherwise": k where the test holds, and else what follows
 abbrev pub refuse : Bool → Refusal → Refusal → Refusal
 refuse test k next = cond test k next
+
+-- the first refusal, and where that accepts, what follows
+abbrev pub orElse : Refusal → Refusal → Refusal
+orElse first next = cond (accepted first) next first

@@ -9,10 +9,10 @@ use Rattle.layout.specs.Width.{fits, leastWidth}
 use Rattle.modes.specs.declared.Mode.{Mode}
 use Rattle.blocks.specs.declared.refusal.Refusal.{Refusal}
 use Rattle.blocks.specs.declared.refusal.Refusal.the-variants.{Accepted, BadWidth, CutShort, OutOfOrder, NotLeast, BadFill, LeftOver}
-use Rattle.blocks.specs.Refusals.{accepted, refuse}
+use Rattle.blocks.specs.Refusals.{accepted, refuse, orElse}
 use Rattle.order.specs.Order.{ordered}
 use Rattle.bodies.specs.Body.{blockCount}
-use Rattle.bodies.specs.Reading.{orElse, widthAt, sizeAt, entryAt, valuesAt, frameRefusal, entriesRefusal, shapeRefusal, valuesRefusal, blockRefusal, refusalFrom, bodyRefusal}
+use Rattle.bodies.specs.Reading.{widthAt, sizeAt, entryAt, valuesAt, frameRefusal, entriesRefusal, shapeRefusal, valuesRefusal, blockRefusal, refusalFrom, bodyRefusal}
 
 module _ (P : Refusal → Type 0) where
   pub refused : (test : Bool) (k next : Refusal) → P k → P next → P (refuse test k next)

@@ -8,11 +8,12 @@ use native.Mathlib.Omega.{arith}
 use native.Mathlib.Decide.{decLt}
 use lib.ListN.{length, take, drop, length-drop, length-take, take-append-drop}
 use Rattle.layout.specs.Layout.{blockSize}
+use Rattle.blocks.specs.Refusals.{orElse}
 use Rattle.modes.specs.declared.Mode.{Mode}
 use Rattle.order.specs.Order.{afterAll, entriesOf, valuesOf}
 use Rattle.order.proofs.Steps.{length-entries, entries-append, values-append}
 use Rattle.bodies.specs.Body.{block, blockCount, blocksOf, bodyOf}
-use Rattle.bodies.specs.Reading.{orElse, sizeAt, entriesAt, valuesAt, blockRefusal, refusalFrom, bodyRefusal, entriesFrom, listOf}
+use Rattle.bodies.specs.Reading.{sizeAt, entriesAt, valuesAt, blockRefusal, refusalFrom, bodyRefusal, entriesFrom, listOf}
 use Rattle.bodies.proofs.Whole.{front}
 
 module _ (L : ℕ) (lanes : 0 < L) where

@@ -10,10 +10,10 @@ use Rattle.layout.specs.Width.{fits, leastWidth}
 use Rattle.modes.specs.declared.Mode.{Mode}
 use Rattle.blocks.specs.declared.refusal.Refusal.{Refusal}
 use Rattle.blocks.specs.declared.refusal.Refusal.the-variants.{Accepted, BadWidth, CutShort, OutOfOrder, NotLeast, BadFill}
-use Rattle.blocks.specs.Refusals.{accepted}
+use Rattle.blocks.specs.Refusals.{accepted, orElse}
 use Rattle.blocks.proofs.Tests.{apart, passed}
 use Rattle.order.specs.Order.{ordered}
-use Rattle.bodies.specs.Reading.{orElse, widthAt, sizeAt, entryAt, valuesAt, frameRefusal, entriesRefusal, shapeRefusal, blockRefusal}
+use Rattle.bodies.specs.Reading.{widthAt, sizeAt, entryAt, valuesAt, frameRefusal, entriesRefusal, shapeRefusal, blockRefusal}
 
 -- one refusal and then another: both accept
 pub both : (k next : Refusal) → accepted (orElse k next) ≡ true → (accepted k ≡ true) × (accepted next ≡ true)

@@ -1,6 +1,6 @@
 -- Reading a body, block by block: which refusal is given, and which list is read. bs are the bytes from a block on, k is how many of
 -- its values are the list's, and m is the mode past the values before it.
-use mathlib.Core.Bool.{not, cond}
+use mathlib.Core.Bool.{not}
 use mathlib.Core.List.{List, [], _++_}
 use Prim.Native.Nat.{ℕ, zero, suc, _+_, _-_, min}
 use lib.Dec.{ltb, eqb}
@@ -10,13 +10,9 @@ use Rattle.layout.specs.Width.{fits, leastWidth}
 use Rattle.modes.specs.declared.Mode.{Mode}
 use Rattle.blocks.specs.declared.refusal.Refusal.{Refusal}
 use Rattle.blocks.specs.declared.refusal.Refusal.the-variants.{Accepted, BadWidth, CutShort, OutOfOrder, NotLeast, BadFill, LeftOver}
-use Rattle.blocks.specs.Refusals.{accepted, refuse}
+use Rattle.blocks.specs.Refusals.{refuse, orElse}
 use Rattle.order.specs.Order.{afterAll, ordered, valuesOf}
 use Rattle.bodies.specs.Body.{blockCount}
-
--- the first refusal, and where that accepts, what follows
-abbrev pub orElse : Refusal → Refusal → Refusal
-orElse first next = cond (accepted first) next first
 
 -- the width byte, the bytes of the block, its entry i, the list's own entries, and the values that these stand for
 abbrev pub widthAt : List ℕ → ℕ

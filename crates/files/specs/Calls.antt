@@ -7,10 +7,10 @@ use Rattle.modes.specs.declared.Mode.{Mode}
 use Rattle.blocks.specs.declared.Answer.{Answer}
 use Rattle.blocks.specs.declared.refusal.Refusal.{Refusal}
 use Rattle.blocks.specs.declared.refusal.Refusal.the-variants.{Accepted, NoRoom}
-use Rattle.blocks.specs.Refusals.{refuse}
+use Rattle.blocks.specs.Refusals.{refuse, orElse}
 use Rattle.blocks.specs.Calls.{answer, written}
 use Rattle.bodies.specs.Body.{bodyOf}
-use Rattle.bodies.specs.Reading.{orElse, listOf}
+use Rattle.bodies.specs.Reading.{listOf}
 use Rattle.lists.specs.Calls.{measureRefusal, readRefusal}
 use Rattle.files.specs.declared.heading.Header.{Header}
 use Rattle.files.specs.Header.{fileOf}

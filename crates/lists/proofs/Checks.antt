@@ -18,10 +18,10 @@ use Rattle.layout.proofs.Widths.{fits-ext, width-ext}
 use Rattle.modes.specs.declared.Mode.{Mode}
 use Rattle.blocks.specs.declared.refusal.Refusal.{Refusal}
 use Rattle.blocks.specs.declared.refusal.Refusal.the-variants.{Accepted, OutOfOrder, LeftOver}
-use Rattle.blocks.specs.Refusals.{accepted}
+use Rattle.blocks.specs.Refusals.{accepted, orElse}
 use Rattle.order.specs.declared.Course.{Course}
 use Rattle.order.specs.Order.{afterAll, ordered, valuesOf, course}
-use Rattle.bodies.specs.Reading.{orElse, widthAt, sizeAt, entryAt, entriesAt, valuesAt, frameRefusal, entriesRefusal, shapeRefusal, blockRefusal, refusalFrom, bodyRefusal}
+use Rattle.bodies.specs.Reading.{widthAt, sizeAt, entryAt, entriesAt, valuesAt, frameRefusal, entriesRefusal, shapeRefusal, blockRefusal, refusalFrom, bodyRefusal}
 use Rattle.bodies.proofs.Tests.{first-stops, first-passes, Framed, framed, block-passed}
 use Rattle.bodies.proofs.Onward.{blocks-none, refusal-next}
 use Rattle.lists.proofs.Standing.{byte-there, byte-narrow, end-within, rest-there}

@@ -8,11 +8,11 @@ use Rattle.modes.specs.declared.Mode.{Mode}
 use Rattle.blocks.specs.declared.Answer.{Answer}
 use Rattle.blocks.specs.declared.refusal.Refusal.{Refusal}
 use Rattle.blocks.specs.declared.refusal.Refusal.the-variants.{Accepted, BadLanes, NoRoom, TooMany}
-use Rattle.blocks.specs.Refusals.{refuse}
+use Rattle.blocks.specs.Refusals.{refuse, orElse}
 use Rattle.blocks.specs.Calls.{isLanes, answer, written}
 use Rattle.order.specs.Order.{most, starting}
 use Rattle.bodies.specs.Body.{bodyOf}
-use Rattle.bodies.specs.Reading.{orElse, valuesRefusal, bodyRefusal, listOf}
+use Rattle.bodies.specs.Reading.{valuesRefusal, bodyRefusal, listOf}
 
 -- what values are refused for, whatever the room: the 1, 7, 8 of writing
 unfoldable pub measureRefusal : ℕ → Mode → List ℕ → Refusal

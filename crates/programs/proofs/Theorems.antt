@@ -14,11 +14,11 @@ use Rattle.modes.specs.declared.Mode.{Mode}
 use Rattle.blocks.specs.declared.Answer.{Answer}
 use Rattle.blocks.specs.declared.refusal.Refusal.{Refusal}
 use Rattle.blocks.specs.declared.refusal.Refusal.the-variants.{Accepted, NoRoom, TooMany, OutOfOrder, BadHeader}
-use Rattle.blocks.specs.Refusals.{numberOf, accepted, refuse}
+use Rattle.blocks.specs.Refusals.{numberOf, accepted, refuse, orElse}
 use Rattle.blocks.proofs.Tests.{apart, passed}
 use Rattle.order.specs.Order.{most, starting, ordered, IsList}
 use Rattle.bodies.specs.Body.{bodyOf}
-use Rattle.bodies.specs.Reading.{orElse, bodyRefusal, listOf}
+use Rattle.bodies.specs.Reading.{bodyRefusal, listOf}
 use Rattle.bodies.proofs.Tests.{both}
 use Rattle.bodies.proofs.Sizes.{body-short}
 use Rattle.bodies.proofs.Numbers.{refused, either, body-only}
@@ -122,11 +122,11 @@ file-short text =
     (λ h. file-length (headerIn text .lanes) (headerIn text .mode) (valuesIn text) (passed (not (isText text)) BadHeader (measureRefusal (headerIn text .lanes) (headerIn text .mode) (valuesIn text)) refl (both (sizeRefusal text) _ h .1) .1))
 
 -- so with that much room 4 is not the answer of a call, and all of it goes out
-pub enough-room : (t before : List ℕ) → length t ≤ length before → (outAnswer t (length before) ≡ record { refusal = Accepted; length = length t }) × (outLeft t before ≡ over t before)
-enough-room t before h = rw (le-ltb (length before) (length t) h) (refl, refl)
+pub whole-answer : (t : List ℕ) (room : ℕ) → length t ≤ room → outAnswer t room ≡ record { refusal = Accepted; length = length t }
+whole-answer t room h = rw (le-ltb room (length t) h)
 
-pub not-four : (t : List ℕ) (room : ℕ) → length t ≤ room → {r : Answer} → r ≡ outAnswer t room → r .refusal ≡ Accepted
-not-four t room h e = rw (e, le-ltb room (length t) h)
+pub whole-left : (t before : List ℕ) → length t ≤ length before → outLeft t before ≡ over t before
+whole-left t before h = rw (le-ltb (length before) (length t) h)
 
 out-within : (t : List ℕ) (room : ℕ) → outAnswer t room .length ≤ room
 out-within t room = go (ltb room (length t)) refl

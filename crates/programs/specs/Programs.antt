@@ -10,10 +10,9 @@ use Rattle.modes.specs.declared.Mode.{Mode}
 use Rattle.blocks.specs.declared.Answer.{Answer}
 use Rattle.blocks.specs.declared.refusal.Refusal.{Refusal}
 use Rattle.blocks.specs.declared.refusal.Refusal.the-variants.{Accepted, NoRoom, BadHeader}
-use Rattle.blocks.specs.Refusals.{numberOf, accepted, refuse}
+use Rattle.blocks.specs.Refusals.{numberOf, accepted, refuse, orElse}
 use Rattle.blocks.specs.Calls.{answer, written}
 use Rattle.order.specs.Order.{most}
-use Rattle.bodies.specs.Reading.{orElse}
 use Rattle.lists.specs.Calls.{measureRefusal}
 use Rattle.text.specs.Text.{decimal, line, same}
 use Rattle.files.specs.Header.{Sets}

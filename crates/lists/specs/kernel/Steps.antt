@@ -6,9 +6,9 @@ use lib.ListN.{drop}
 use Rattle.modes.specs.declared.Mode.{Mode}
 use Rattle.blocks.specs.declared.refusal.Refusal.{Refusal}
 use Rattle.blocks.specs.declared.refusal.Refusal.the-variants.{Accepted}
-use Rattle.blocks.specs.Refusals.{accepted}
+use Rattle.blocks.specs.Refusals.{accepted, orElse}
 use Rattle.order.specs.Order.{afterAll}
-use Rattle.bodies.specs.Reading.{orElse, sizeAt, valuesAt, frameRefusal, blockRefusal}
+use Rattle.bodies.specs.Reading.{sizeAt, valuesAt, frameRefusal, blockRefusal}
 use Rattle.lists.specs.declared.check.Checked.{Checked}
 
 -- the refusal of a block, and the mode past its values; the mode before them where it is refused

@@ -33,8 +33,9 @@ def file_of(lanes, mode, values):
     return header_text(lanes, mode, len(values), len(body)) + body
 
 
-NUMBER = "(0|[1-9][0-9]*)"
-HEADER = re.compile(f"lanes=([148])\nmode=(plain|sorted|strict)\nfirst=(none|0|[1-9][0-9]*)\ncount={NUMBER}\nbytes={NUMBER}\n\n".encode())
+# a number of more than ten digits is over 4,294,967,295
+NUMBER = "(0|[1-9][0-9]{0,9})"
+HEADER = re.compile(f"lanes=([148])\nmode=(plain|sorted|strict)\nfirst=(none|0|[1-9][0-9]{{0,9}})\ncount={NUMBER}\nbytes={NUMBER}\n\n".encode())
 
 
 def header_of(file):

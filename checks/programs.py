@@ -46,7 +46,7 @@ def settings_of(lines):
 
 def value_in(line):
     """ "Numbers are decimal, at most 4,294,967,295, without leading zeros." None for any other line. """
-    if not re.fullmatch(NUMBER.encode(), line) or len(line) > 10 or int(line) > LARGEST:
+    if not re.fullmatch(NUMBER.encode(), line) or int(line) > LARGEST:
         return None
     return int(line)
 

@@ -2,7 +2,7 @@
 fn main() {
     let folder = std::env::var("SISALSHED_LIBRARY").expect("SISALSHED_LIBRARY");
     println!("cargo:rerun-if-env-changed=SISALSHED_LIBRARY");
-    println!("cargo:rerun-if-changed={folder}/libc_interface.a");
+    println!("cargo:rerun-if-changed={folder}/libsisalshed.a");
     println!("cargo:rustc-link-search=native={folder}");
-    println!("cargo:rustc-link-lib=static=c_interface");
+    println!("cargo:rustc-link-lib=static=sisalshed");
 }

@@ -1,2 +1,0 @@
-pub mod Matches
-pub mod Determined

@@ -1,0 +1,141 @@
+/*
+ * Sisalshed: packed page lists. The proved calls, for C and C++.
+ *
+ * The library is one file, libsisalshed.a. It uses no heap, keeps nothing between calls, starts no thread and asks nothing of an
+ * operating system. Every call ends, and every call takes any numbers, any lengths and any bytes: what it cannot do it refuses, with a
+ * number of `enum sisalshed_refusal`, length 0, and the memory that it was lent exactly as it was. What it accepts it does whole, and
+ * memory past what it writes is as it was.
+ *
+ * What a caller owes, and nothing can test: a pointer is valid for the length beside it, in elements and not in bytes; a pointer to
+ * uint32_t is aligned for it; memory that is lent to be written overlaps nothing else that is lent with it; and no pointer is null, not
+ * even beside length 0.
+ */
+#ifndef SISALSHED_H
+#define SISALSHED_H
+
+#include <stddef.h>
+#include <stdint.h>
+
+#ifdef __cplusplus
+extern "C" {
+#endif
+
+/* The numbers of refusal. The first that applies is given, in the order that stands with each call. */
+enum sisalshed_refusal {
+    SISALSHED_ACCEPTED = 0,     /* not refused */
+    SISALSHED_BAD_LANES = 1,    /* lanes not 1, 4, 8 */
+    SISALSHED_BAD_WIDTH = 2,    /* width over 32 */
+    SISALSHED_BAD_BLOCK = 3,    /* values given are not exactly a block */
+    SISALSHED_NO_ROOM = 4,      /* output shorter than needed */
+    SISALSHED_CUT_SHORT = 5,    /* bytes end before a width or payload does */
+    SISALSHED_TOO_WIDE = 6,     /* block does not fit the width */
+    SISALSHED_TOO_MANY = 7,     /* count over 4,096 */
+    SISALSHED_OUT_OF_ORDER = 8, /* the mode's order is broken */
+    SISALSHED_NOT_LEAST = 9,    /* stored width is not the least */
+    SISALSHED_BAD_FILL = 10,    /* a filling entry is not 0 */
+    SISALSHED_LEFT_OVER = 11,   /* bytes after the last block */
+    SISALSHED_BAD_HEADER = 12   /* header is not as it must be, `bytes` is not the body's length, or there is no such kind */
+};
+
+/* The kind of a mode. Beside SISALSHED_PLAIN and SISALSHED_STRICT_NONE the first number is ignored. Any other kind is 12, before every
+ * other number. */
+enum sisalshed_kind {
+    SISALSHED_PLAIN = 0,       /* values in no order */
+    SISALSHED_SORTED = 1,      /* each at least the one before, the first at least the first number */
+    SISALSHED_STRICT_NONE = 2, /* each greater than the one before, the first unbounded */
+    SISALSHED_STRICT = 3       /* each greater than the one before, the first greater than the first number; 4,294,967,295 bounds nothing */
+};
+
+/* Sizes. */
+#define SISALSHED_BLOCK(lanes) (32 * (size_t)(lanes))  /* values of a block: 32, 128, 256 for 1, 4, 8 lanes */
+#define SISALSHED_LARGEST_BLOCK 256                     /* values of the largest block */
+#define SISALSHED_LARGEST_WIDTH 32                      /* bits of the widest entry */
+#define SISALSHED_PAYLOAD(lanes, width) (4 * (size_t)(lanes) * (size_t)(width)) /* bytes of a packed block */
+#define SISALSHED_LARGEST_PAYLOAD 1024                  /* bytes of the largest packed block */
+#define SISALSHED_MOST_VALUES 4096                      /* values of the longest list: room that every list fits */
+#define SISALSHED_LARGEST_BODY 16512                    /* bytes of the largest body: room that every body fits */
+#define SISALSHED_LARGEST_FILE 16566                    /* bytes of the largest file: room that every file fits */
+
+/* An array and its length in elements, as two arguments. It takes an array, not a pointer: gcc -Wall warns of a pointer here. */
+#define SISALSHED_ARRAY(array) (array), (sizeof(array) / sizeof((array)[0]))
+
+/* What a call answers. `number` is of enum sisalshed_refusal; where it is not 0, all else is 0. */
+struct sisalshed_answer {
+    uint32_t number;
+    size_t length;
+};
+
+/* What the five lines of a list file say: the mode as kind and first number. */
+struct sisalshed_header_answer {
+    uint32_t number;
+    uint32_t lanes;
+    uint32_t kind;
+    uint32_t first; /* 0 beside SISALSHED_PLAIN and SISALSHED_STRICT_NONE */
+    uint32_t count;
+    uint32_t bytes;
+};
+
+/* Where the body stands in a list file: `length` bytes from file + start, to the file's end. */
+struct sisalshed_body_answer {
+    uint32_t number;
+    size_t start;
+    size_t length;
+};
+
+/* Answers the bytes of a packed block, 4 x lanes x width. Refuses 1, 2. */
+struct sisalshed_answer sisalshed_compressed_block_size(size_t lanes, uint32_t width);
+
+/* Packs exactly a block of values at a width. Answers the payload's bytes, and leaves them at the front of `compressed`.
+ * Refuses 12 (kind), 1, 2, 3, 4, 6. */
+struct sisalshed_answer sisalshed_compress(size_t lanes, uint32_t kind, uint32_t first,
+                                           const uint32_t *decompressed, size_t decompressed_length,
+                                           uint8_t *compressed, size_t compressed_length, uint32_t width);
+
+/* Unpacks a block from any bytes that are long enough. Answers the bytes used, 4 x lanes x width, and leaves a block of values at the
+ * front of `decompressed`. Nothing is tested of what the bytes say. Refuses 12 (kind), 1, 2, 4, 5. */
+struct sisalshed_answer sisalshed_decompress(size_t lanes, uint32_t kind, uint32_t first,
+                                             const uint8_t *compressed, size_t compressed_length,
+                                             uint32_t *decompressed, size_t decompressed_length, uint32_t width);
+
+/* Answers the least width that exactly a block of values fits, as `length`. Refuses 12 (kind), 1, 3. */
+struct sisalshed_answer sisalshed_num_bits(size_t lanes, uint32_t kind, uint32_t first,
+                                           const uint32_t *decompressed, size_t decompressed_length);
+
+/* Answers the bytes of the body that a list has. Refuses 12 (kind), 1, 7, 8. */
+struct sisalshed_answer sisalshed_measure_list(size_t lanes, uint32_t kind, uint32_t first,
+                                               const uint32_t *values, size_t values_length);
+
+/* Writes the body of a list. Answers its bytes, and leaves them at the front of `body`. Refuses 12 (kind), 1, 7, 8, 4. */
+struct sisalshed_answer sisalshed_write_list(size_t lanes, uint32_t kind, uint32_t first,
+                                             const uint32_t *values, size_t values_length,
+                                             uint8_t *body, size_t body_length);
+
+/* Reads a list of `count` values, if the body is exactly what sisalshed_write_list writes for one. Answers the count, and leaves the
+ * values at the front of `values`, which needs room for the count only.
+ * Refuses 12 (kind), 1, 7, 4; then block by block 5, 2, 5, 10, 9, 8; at the end 11. */
+struct sisalshed_answer sisalshed_read_list(size_t lanes, uint32_t kind, uint32_t first, size_t count,
+                                            const uint8_t *body, size_t body_length,
+                                            uint32_t *values, size_t values_length);
+
+/* Answers what the five lines of a list file say. Of the body nothing is tested but its length. Refuses 12. */
+struct sisalshed_header_answer sisalshed_header(const uint8_t *file, size_t file_length);
+
+/* Answers where the body of a list file stands. Of the body nothing is tested but its length. Refuses 12. */
+struct sisalshed_body_answer sisalshed_body(const uint8_t *file, size_t file_length);
+
+/* Reads a list file, if it is exactly what sisalshed_write_file writes for a list. Answers the count, and leaves the values at the
+ * front of `values`, which needs room for the count only. Refuses 12 (header), then as sisalshed_read_list. */
+struct sisalshed_answer sisalshed_read_file(const uint8_t *file, size_t file_length,
+                                            uint32_t *values, size_t values_length);
+
+/* Writes the file of a list, header and body. Answers its bytes, and leaves them at the front of `file`.
+ * Refuses 12 (kind), 1, 7, 8, 4. */
+struct sisalshed_answer sisalshed_write_file(size_t lanes, uint32_t kind, uint32_t first,
+                                             const uint32_t *values, size_t values_length,
+                                             uint8_t *file, size_t file_length);
+
+#ifdef __cplusplus
+}
+#endif
+
+#endif

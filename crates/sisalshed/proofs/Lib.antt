@@ -1,4 +1,5 @@
 pub mod Matches
 pub mod Parts
 pub mod Theorems
+pub mod Largest
 pub mod Determined

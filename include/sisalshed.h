@@ -1,14 +1,17 @@
 /*
- * Sisalshed: packed page lists. The proved calls, for C and C++.
+ * Sisalshed: packed page lists. The proved calls, for C and C++ on x86-64 (System V calling convention).
  *
- * The library is one file, libsisalshed.a. It uses no heap, keeps nothing between calls, starts no thread and asks nothing of an
- * operating system. Every call ends, and every call takes any numbers, any lengths and any bytes: what it cannot do it refuses, with a
- * number of `enum sisalshed_refusal`, length 0, and the memory that it was lent exactly as it was. What it accepts it does whole, and
- * memory past what it writes is as it was.
+ * The library is one file, libsisalshed.a. It uses no heap, keeps nothing between calls, starts no thread, and asks for memcpy and memset
+ * alone. Every call ends, and every call takes any numbers, any bytes and room of any length: what it cannot do it refuses, with a number
+ * of `enum sisalshed_refusal`, length 0, and the memory that it was lent exactly as it was. What it accepts it does whole, and memory past
+ * what it writes is as it was. Memory that is lent to be written need not hold anything before.
  *
- * What a caller owes, and nothing can test: a pointer is valid for the length beside it, in elements and not in bytes; a pointer to
- * uint32_t is aligned for it; memory that is lent to be written overlaps nothing else that is lent with it; and no pointer is null, not
- * even beside length 0.
+ * What a caller owes, and nothing can test:
+ * - a pointer is valid for the length beside it, which counts elements and not bytes;
+ * - no pointer is null, not even beside length 0 (as malloc(0) or an empty vector's data() may be);
+ * - a pointer to uint32_t is aligned for it;
+ * - memory that is lent to be written overlaps nothing else that is lent with it;
+ * - until the call ends nobody else writes to what is lent: no thread, no interrupt, no DMA.
  */
 #ifndef SISALSHED_H
 #define SISALSHED_H
@@ -37,24 +40,34 @@ enum sisalshed_refusal {
     SISALSHED_BAD_HEADER = 12   /* header is not as it must be, `bytes` is not the body's length, or there is no such kind */
 };
 
-/* The kind of a mode. Beside SISALSHED_PLAIN and SISALSHED_STRICT_NONE the first number is ignored. Any other kind is 12, before every
+/* The kind of a mode. Order is asked by the list and file calls alone: the block calls take any values, and differences wrap. Beside SISALSHED_PLAIN and SISALSHED_STRICT_NONE the first number is ignored. Any other kind is 12, before every
  * other number. */
 enum sisalshed_kind {
     SISALSHED_PLAIN = 0,       /* values in no order */
     SISALSHED_SORTED = 1,      /* each at least the one before, the first at least the first number */
-    SISALSHED_STRICT_NONE = 2, /* each greater than the one before, the first unbounded */
-    SISALSHED_STRICT = 3       /* each greater than the one before, the first greater than the first number; 4,294,967,295 bounds nothing */
+    SISALSHED_STRICT_NONE = 2, /* each greater than the one before; no bound on the first */
+    SISALSHED_STRICT = 3       /* each greater than the one before, the first greater than the first number. As the first number
+                                  4,294,967,295 puts no bound on the first value, and a file written with it says none */
 };
 
-/* Sizes. */
-#define SISALSHED_BLOCK(lanes) (32 * (size_t)(lanes))  /* values of a block: 32, 128, 256 for 1, 4, 8 lanes */
-#define SISALSHED_LARGEST_BLOCK 256                     /* values of the largest block */
-#define SISALSHED_LARGEST_WIDTH 32                      /* bits of the widest entry */
+/* Sizes. The first two are for lanes 1, 4, 8 and widths to 32, and test nothing; sisalshed_compressed_block_size does. */
+#define SISALSHED_BLOCK(lanes) (32 * (size_t)(lanes)) /* values of a block: 32, 128, 256 */
 #define SISALSHED_PAYLOAD(lanes, width) (4 * (size_t)(lanes) * (size_t)(width)) /* bytes of a packed block */
-#define SISALSHED_LARGEST_PAYLOAD 1024                  /* bytes of the largest packed block */
-#define SISALSHED_MOST_VALUES 4096                      /* values of the longest list: room that every list fits */
-#define SISALSHED_LARGEST_BODY 16512                    /* bytes of the largest body: room that every body fits */
-#define SISALSHED_LARGEST_FILE 16566                    /* bytes of the largest file: room that every file fits */
+#define SISALSHED_LARGEST_BLOCK 256     /* values of the largest block */
+#define SISALSHED_LARGEST_WIDTH 32      /* bits of the widest entry */
+#define SISALSHED_LARGEST_PAYLOAD 1024  /* bytes of the largest packed block */
+#define SISALSHED_MOST_VALUES 4096      /* values of the longest list that is written or read */
+#define SISALSHED_LARGEST_BODY 16512    /* bytes of the largest body that is written or read */
+#define SISALSHED_LARGEST_FILE 16566    /* bytes of the largest file that is written or read. Whoever fetches a file lends one byte
+                                           more, so as to see that it is not longer */
+
+#if defined(__GNUC__)
+#define SISALSHED_ANSWERS __attribute__((warn_unused_result))
+#define SISALSHED_LENT __attribute__((warn_unused_result, nonnull))
+#else
+#define SISALSHED_ANSWERS
+#define SISALSHED_LENT
+#endif
 
 /* An array and its length in elements, as two arguments. It takes an array, not a pointer: gcc -Wall warns of a pointer here. */
 #define SISALSHED_ARRAY(array) (array), (sizeof(array) / sizeof((array)[0]))
@@ -65,7 +78,8 @@ struct sisalshed_answer {
     size_t length;
 };
 
-/* What the five lines of a list file say: the mode as kind and first number. */
+/* What the five lines of a list file say: the mode as kind and first number. count and bytes are what the file says. They may be over
+ * SISALSHED_MOST_VALUES and SISALSHED_LARGEST_BODY: reading alone tests that. */
 struct sisalshed_header_answer {
     uint32_t number;
     uint32_t lanes;
@@ -75,7 +89,8 @@ struct sisalshed_header_answer {
     uint32_t bytes;
 };
 
-/* Where the body stands in a list file: `length` bytes from file + start, to the file's end. */
+/* Where the body stands in a list file: `length` bytes from file + start, to the file's end. They may be more than
+ * SISALSHED_LARGEST_BODY. */
 struct sisalshed_body_answer {
     uint32_t number;
     size_t start;
@@ -83,29 +98,36 @@ struct sisalshed_body_answer {
 };
 
 /* Answers the bytes of a packed block, 4 x lanes x width. Refuses 1, 2. */
+SISALSHED_ANSWERS
 struct sisalshed_answer sisalshed_compressed_block_size(size_t lanes, uint32_t width);
 
 /* Packs exactly a block of values at a width. Answers the payload's bytes, and leaves them at the front of `compressed`.
  * Refuses 12 (kind), 1, 2, 3, 4, 6. */
+SISALSHED_LENT
 struct sisalshed_answer sisalshed_compress(size_t lanes, uint32_t kind, uint32_t first,
                                            const uint32_t *decompressed, size_t decompressed_length,
                                            uint8_t *compressed, size_t compressed_length, uint32_t width);
 
-/* Unpacks a block from any bytes that are long enough. Answers the bytes used, 4 x lanes x width, and leaves a block of values at the
- * front of `decompressed`. Nothing is tested of what the bytes say. Refuses 12 (kind), 1, 2, 4, 5. */
+/* Unpacks a block from any bytes that are long enough. Answers the bytes used, 4 x lanes x width, and not how many values there are: it
+ * leaves SISALSHED_BLOCK(lanes) values at the front of `decompressed`. Nothing is tested of what the bytes say.
+ * Refuses 12 (kind), 1, 2, 4, 5. */
+SISALSHED_LENT
 struct sisalshed_answer sisalshed_decompress(size_t lanes, uint32_t kind, uint32_t first,
                                              const uint8_t *compressed, size_t compressed_length,
                                              uint32_t *decompressed, size_t decompressed_length, uint32_t width);
 
 /* Answers the least width that exactly a block of values fits, as `length`. Refuses 12 (kind), 1, 3. */
+SISALSHED_LENT
 struct sisalshed_answer sisalshed_num_bits(size_t lanes, uint32_t kind, uint32_t first,
                                            const uint32_t *decompressed, size_t decompressed_length);
 
 /* Answers the bytes of the body that a list has. Refuses 12 (kind), 1, 7, 8. */
+SISALSHED_LENT
 struct sisalshed_answer sisalshed_measure_list(size_t lanes, uint32_t kind, uint32_t first,
                                                const uint32_t *values, size_t values_length);
 
 /* Writes the body of a list. Answers its bytes, and leaves them at the front of `body`. Refuses 12 (kind), 1, 7, 8, 4. */
+SISALSHED_LENT
 struct sisalshed_answer sisalshed_write_list(size_t lanes, uint32_t kind, uint32_t first,
                                              const uint32_t *values, size_t values_length,
                                              uint8_t *body, size_t body_length);
@@ -113,26 +135,38 @@ struct sisalshed_answer sisalshed_write_list(size_t lanes, uint32_t kind, uint32
 /* Reads a list of `count` values, if the body is exactly what sisalshed_write_list writes for one. Answers the count, and leaves the
  * values at the front of `values`, which needs room for the count only.
  * Refuses 12 (kind), 1, 7, 4; then block by block 5, 2, 5, 10, 9, 8; at the end 11. */
+SISALSHED_LENT
 struct sisalshed_answer sisalshed_read_list(size_t lanes, uint32_t kind, uint32_t first, size_t count,
                                             const uint8_t *body, size_t body_length,
                                             uint32_t *values, size_t values_length);
 
 /* Answers what the five lines of a list file say. Of the body nothing is tested but its length. Refuses 12. */
+SISALSHED_LENT
 struct sisalshed_header_answer sisalshed_header(const uint8_t *file, size_t file_length);
 
 /* Answers where the body of a list file stands. Of the body nothing is tested but its length. Refuses 12. */
+SISALSHED_LENT
 struct sisalshed_body_answer sisalshed_body(const uint8_t *file, size_t file_length);
 
 /* Reads a list file, if it is exactly what sisalshed_write_file writes for a list. Answers the count, and leaves the values at the
  * front of `values`, which needs room for the count only. Refuses 12 (header), then as sisalshed_read_list. */
+SISALSHED_LENT
 struct sisalshed_answer sisalshed_read_file(const uint8_t *file, size_t file_length,
                                             uint32_t *values, size_t values_length);
 
 /* Writes the file of a list, header and body. Answers its bytes, and leaves them at the front of `file`.
  * Refuses 12 (kind), 1, 7, 8, 4. */
+SISALSHED_LENT
 struct sisalshed_answer sisalshed_write_file(size_t lanes, uint32_t kind, uint32_t first,
                                              const uint32_t *values, size_t values_length,
                                              uint8_t *file, size_t file_length);
+
+/* The name of a number of refusal, as in the enum; "" for a number that is none of them. */
+static inline const char *sisalshed_refusal_name(uint32_t number) {
+    static const char *const names[13] = {"ACCEPTED",  "BAD_LANES", "BAD_WIDTH",    "BAD_BLOCK", "NO_ROOM",  "CUT_SHORT", "TOO_WIDE",
+                                          "TOO_MANY", "OUT_OF_ORDER", "NOT_LEAST", "BAD_FILL", "LEFT_OVER", "BAD_HEADER"};
+    return number < 13 ? names[number] : "";
+}
 
 #ifdef __cplusplus
 }

@@ -1,8 +1,8 @@
 -- What crosses loses nothing.
-use mathlib.Core.Path.{_≡_, refl}
+use mathlib.Core.Path.{_≡_, refl, sym}
 use mathlib.Core.Bool.{Bool, true, false}
 use mathlib.Core.List.{List}
-use Prim.Native.Nat.{ℕ, _≤_}
+use Prim.Native.Nat.{ℕ, _+_, _≤_}
 use native.Mathlib.Omega.{arith}
 use lib.ListN.{length, drop, take}
 use lib.Seq.{take-length}
@@ -15,6 +15,7 @@ use Rattle.blocks.specs.Refusals.{numberOf}
 use Rattle.files.specs.Opening.{bodyIn, isFile, openAnswer}
 use Rattle.sisalshed.specs.Crossing.{modeOf, kindOf, firstGiven}
 use Rattle.sisalshed.specs.Calls.{bodyCrossed}
+use Rattle.sisalshed.proofs.Parts.{two-parts}
 
 -- a mode comes back from its two numbers
 pub mode-back : (m : Mode) → modeOf (kindOf m) (firstGiven m) ≡ m
@@ -31,6 +32,10 @@ part-is-body file = go (isFile file) refl
     go : (b : Bool) → isFile file ≡ b → take (bodyCrossed file .length) (drop (bodyCrossed file .start) file) ≡ openAnswer file
     go true e = rw e (take-length (bodyIn file))
     go false e = rw e refl
+
+-- and go to the end of the file
+pub part-to-the-end : (file : List ℕ) → isFile file ≡ true → bodyCrossed file .start + bodyCrossed file .length ≡ length file
+part-to-the-end file f = rw f (sym (two-parts file f))
 
 -- the numbers are those of the header's enum
 pub number-known : (k : Refusal) → numberOf k ≤ 12

@@ -113,10 +113,10 @@ static void sizes(void) {
 
 /* A kind that there is not, with everything else as bad as can be, and with everything else as it should be. */
 static void kinds(void) {
-    const uint32_t wrong[3] = {4, 5, 0xffffffffu};
+    const uint32_t wrong[8] = {4, 5, 255, 256, 257, 65536, 0x80000001u, 0xffffffffu};
     lend();
     ascending(32, 0);
-    for (int which = 0; which < 3; which++) {
+    for (int which = 0; which < 8; which++) {
         uint32_t kind = wrong[which];
         IS(sisalshed_compress(3, kind, 0, given, 5, bytes, 0, 99), SISALSHED_BAD_HEADER, 0);
         IS(sisalshed_compress(1, kind, 0, given, 32, bytes, 128, 32), SISALSHED_BAD_HEADER, 0);
@@ -211,7 +211,7 @@ static void there_and_back(size_t lanes, uint32_t kind, uint32_t first, size_t c
     CHECK(part.number == SISALSHED_ACCEPTED && part.length == body.length && part.start + part.length == file.length);
     CHECK(memcmp(bytes + part.start, packed, body.length) == 0);
     lend();
-    sisalshed_write_file(lanes, kind, first, given, count, bytes, file.length);
+    IS(sisalshed_write_file(lanes, kind, first, given, count, bytes, file.length), SISALSHED_ACCEPTED, file.length);
     IS(sisalshed_read_file(bytes, file.length, values, count), SISALSHED_ACCEPTED, count);
     CHECK(memcmp(values, given, count * sizeof given[0]) == 0 && values_kept(count) && bytes_kept(file.length));
 
@@ -300,6 +300,89 @@ static void files(void) {
     CHECK(strict.number == 0 && header.kind == SISALSHED_STRICT_NONE && header.first == 0 && header.lanes == 8);
 }
 
+/* Numbers whose low bits would do. */
+static void wide_numbers(void) {
+    lend();
+    only(256, 0, 0);
+    IS(sisalshed_compressed_block_size(257, 1), SISALSHED_BAD_LANES, 0);
+    IS(sisalshed_compressed_block_size(1, 256), SISALSHED_BAD_WIDTH, 0);
+    IS(sisalshed_compress(257, SISALSHED_PLAIN, 0, given, 32, bytes, 4, 1), SISALSHED_BAD_LANES, 0);
+    IS(sisalshed_compress(1, SISALSHED_PLAIN, 0, given, 32, bytes, 4, 257), SISALSHED_BAD_WIDTH, 0);
+    IS(sisalshed_decompress(260, SISALSHED_PLAIN, 0, packed, 999, values, 256, 1), SISALSHED_BAD_LANES, 0);
+    IS(sisalshed_decompress(4, SISALSHED_PLAIN, 0, packed, 999, values, 256, 0x10001), SISALSHED_BAD_WIDTH, 0);
+    IS(sisalshed_num_bits(264, SISALSHED_PLAIN, 0, given, 256), SISALSHED_BAD_LANES, 0);
+    IS(sisalshed_measure_list(257, SISALSHED_PLAIN, 0, given, 1), SISALSHED_BAD_LANES, 0);
+    IS(sisalshed_write_list((size_t)1 << 32 | 1, SISALSHED_PLAIN, 0, given, 1, bytes, 99), SISALSHED_BAD_LANES, 0);
+    IS(sisalshed_write_file((size_t)1 << 32 | 1, SISALSHED_PLAIN, 0, given, 1, bytes, 99), SISALSHED_BAD_LANES, 0);
+    IS(sisalshed_read_list((size_t)1 << 32 | 1, SISALSHED_PLAIN, 0, 0, packed, 0, values, 9), SISALSHED_BAD_LANES, 0);
+    IS(sisalshed_read_list(1, SISALSHED_PLAIN, 0, (size_t)1 << 32, packed, 0, values, 9), SISALSHED_TOO_MANY, 0);
+    CHECK(bytes_kept(0) && values_kept(0));
+}
+
+/* The first number is ignored beside plain and beside strict with none. */
+static void ignored_first(void) {
+    const uint32_t both[2] = {SISALSHED_PLAIN, SISALSHED_STRICT_NONE};
+    ascending(200, 3);
+    for (int which = 0; which < 2; which++) {
+        uint32_t kind = both[which];
+        lend();
+        struct sisalshed_answer body = sisalshed_write_list(4, kind, 0, given, 200, packed, sizeof packed);
+        IS(sisalshed_measure_list(4, kind, 99, given, 200), SISALSHED_ACCEPTED, body.length);
+        IS(sisalshed_write_list(4, kind, 99, given, 200, bytes, sizeof bytes), SISALSHED_ACCEPTED, body.length);
+        CHECK(memcmp(bytes, packed, body.length) == 0 && bytes_kept(body.length));
+        IS(sisalshed_read_list(4, kind, 99, 200, packed, body.length, values, 200), SISALSHED_ACCEPTED, 200);
+        CHECK(memcmp(values, given, 200 * sizeof given[0]) == 0 && values_kept(200));
+        lend();
+        struct sisalshed_answer file = sisalshed_write_file(4, kind, 0, given, 200, packed, sizeof packed);
+        IS(sisalshed_write_file(4, kind, 99, given, 200, bytes, sizeof bytes), SISALSHED_ACCEPTED, file.length);
+        CHECK(memcmp(bytes, packed, file.length) == 0 && bytes_kept(file.length));
+        IS(sisalshed_decompress(4, kind, 99, packed, 0, values, 128, 0), SISALSHED_ACCEPTED, 0);
+        CHECK(values[1] == (kind == SISALSHED_PLAIN ? 0u : 1u));
+    }
+}
+
+/* Memory that begins at an odd byte, and values that begin at any value. */
+static void anywhere(void) {
+    ascending(300, 7);
+    for (size_t off = 1; off < 8; off++) {
+        lend();
+        struct sisalshed_answer file = sisalshed_write_file(1, SISALSHED_STRICT, 6 + (uint32_t)off, given + off, 290, bytes + off, sizeof bytes - off);
+        CHECK(file.number == SISALSHED_ACCEPTED && bytes_kept(off + file.length));
+        IS(sisalshed_read_file(bytes + off, file.length, values + off, 290), SISALSHED_ACCEPTED, 290);
+        CHECK(memcmp(values + off, given + off, 290 * sizeof given[0]) == 0 && values_kept(off + 290));
+        CHECK(bytes[off - 1] == mark(off - 1) && values[off - 1] == 0x01010101u * mark(off - 1));
+    }
+}
+
+/* What a header says is handed out as it stands, and reading tests it. */
+static void long_file(void) {
+    static uint8_t file[100100];
+    const char *text = "lanes=1\nmode=plain\nfirst=none\ncount=4294967295\nbytes=100000\n\n";
+    size_t length = strlen(text) + 100000;
+    memcpy(file, text, strlen(text));
+    struct sisalshed_header_answer header = sisalshed_header(file, length);
+    CHECK(header.number == SISALSHED_ACCEPTED && header.count == 4294967295u && header.bytes == 100000);
+    struct sisalshed_body_answer body = sisalshed_body(file, length);
+    CHECK(body.number == SISALSHED_ACCEPTED && body.start == strlen(text) && body.length == 100000);
+    lend();
+    IS(sisalshed_read_file(file, length, values, SISALSHED_MOST_VALUES), SISALSHED_TOO_MANY, 0);
+    IS(sisalshed_read_list(1, SISALSHED_PLAIN, 0, 4096, file + body.start, body.length, values, SISALSHED_MOST_VALUES), SISALSHED_LEFT_OVER, 0);
+    file[6] = '2';
+    header = sisalshed_header(file, length);
+    CHECK(header.number == 12 && header.lanes == 0 && header.kind == 0 && header.first == 0 && header.count == 0 && header.bytes == 0);
+    body = sisalshed_body(file, length);
+    CHECK(body.number == 12 && body.start == 0 && body.length == 0);
+    CHECK(values_kept(0));
+}
+
+static void names(void) {
+    CHECK(strcmp(sisalshed_refusal_name(SISALSHED_ACCEPTED), "ACCEPTED") == 0);
+    CHECK(strcmp(sisalshed_refusal_name(SISALSHED_NO_ROOM), "NO_ROOM") == 0);
+    CHECK(strcmp(sisalshed_refusal_name(SISALSHED_OUT_OF_ORDER), "OUT_OF_ORDER") == 0);
+    CHECK(strcmp(sisalshed_refusal_name(SISALSHED_BAD_HEADER), "BAD_HEADER") == 0);
+    CHECK(strcmp(sisalshed_refusal_name(13), "") == 0);
+}
+
 int main(void) {
     const size_t lanes[3] = {1, 4, 8};
     const size_t counts[8] = {0, 1, 31, 32, 33, 257, 4095, 4096};
@@ -308,6 +391,11 @@ int main(void) {
     blocks();
     lists();
     files();
+    wide_numbers();
+    ignored_first();
+    anywhere();
+    long_file();
+    names();
     for (int which = 0; which < 3; which++) {
         for (int how_many = 0; how_many < 8; how_many++) {
             size_t count = counts[how_many];

@@ -3,10 +3,11 @@
  * Outputs are lent as malloc gives them, so that it also sees an answer that depends on what they held. Inputs must come back as they
  * were. Lists of all modes and lanes are written and read, whole, damaged, and with an element too little room.
  *
- *     lent ROUNDS [past]
+ *     lent ROUNDS
+ *     lent output | input
  *
- * Its last line is 'N passed, M failed': one of them for each call. With `past` it does what a caller must not do, and names one element
- * more than it has: the checker must see that.
+ * Its last line is 'N passed, M failed': one of them for each call. With `output` or `input` it does what a caller must not do, and names
+ * one element more than it lends: the checker must see that.
  */
 #include <stdio.h>
 #include <stdlib.h>
@@ -128,6 +129,40 @@ static void read_file(const uint8_t *file, size_t length, size_t room, const uin
     called(body.number, body.number == header.number && body.start + body.length == (body.number == 0 ? length : 0), in);
 }
 
+/* One block call of each kind with `count` values, `bytes` bytes and `room` values: whatever is asked, nothing else is touched. */
+static void block_calls(size_t lanes, uint32_t kind, uint32_t first, const uint32_t *values, size_t count, size_t bytes, size_t room, uint32_t width) {
+    struct input in = values_of(values, count);
+    struct sisalshed_answer bits = sisalshed_num_bits(lanes, kind, first, (const uint32_t *)in.block, count);
+    called(bits.number, whole(bits, SISALSHED_LARGEST_WIDTH), in);
+
+    uint8_t *payload = (uint8_t *)lend(bytes);
+    in = values_of(values, count);
+    struct sisalshed_answer packed = sisalshed_compress(lanes, kind, first, (const uint32_t *)in.block, count, payload, bytes, width);
+    called(packed.number, whole(packed, bytes), in);
+
+    memset(payload, 0x5a, bytes);
+    uint32_t *out = (uint32_t *)lend(room * sizeof out[0]);
+    in = input_of(payload, bytes);
+    struct sisalshed_answer unpacked = sisalshed_decompress(lanes, kind, first, (const uint8_t *)in.block, bytes, out, room, width);
+    called(unpacked.number, whole(unpacked, bytes), in);
+    free(out);
+    free(payload);
+}
+
+/* Block calls that are refused, each for another reason, and one at the width of any number. */
+static void refused_blocks(size_t lanes, uint32_t kind, uint32_t first, const uint32_t *values) {
+    size_t b = SISALSHED_BLOCK(lanes);
+    uint32_t width = (uint32_t)below(SISALSHED_LARGEST_WIDTH + 1);
+    size_t size = SISALSHED_PAYLOAD(lanes, width);
+    block_calls(lanes, kind, first, values, b, size, b, width);
+    block_calls(lanes, kind, first, values, b - 1, size, b - 1, width);
+    block_calls(lanes, kind, first, values, b, size > 0 ? size - 1 : 0, b, width);
+    block_calls(lanes, kind, first, values, 0, 0, 0, width);
+    block_calls(lanes, kind, first, values, 1, 1, 1, 33 + any() % 1000);
+    block_calls(lanes + 1, kind, first, values, 1, 1, 1, width);
+    block_calls(lanes, 4 + any() % 1000, first, values, 1, 1, 1, width);
+}
+
 static void block(size_t lanes, uint32_t kind, uint32_t first, const uint32_t *values) {
     size_t b = SISALSHED_BLOCK(lanes);
     struct input in = values_of(values, b);
@@ -175,6 +210,7 @@ static void round_of(void) {
         values[at] = value;
     }
     block(lanes, kind, first, values);
+    refused_blocks(lanes, kind, first, values);
 
     struct input in = values_of(values, count);
     struct sisalshed_answer measured = sisalshed_measure_list(lanes, kind, first, (const uint32_t *)in.block, count);
@@ -193,35 +229,64 @@ static void round_of(void) {
         body[below(length)] ^= (uint8_t)(1u << below(8));
         read_list(lanes, kind, first, count, body, length, count, NULL);
     }
+    /* lanes and kinds that there are not, a count that is too large, values out of order */
+    write_list(lanes + 1, kind, first, values, count, length, NULL);
+    write_file(lanes, 4 + any() % 1000, first, values, count, file_length, NULL);
+    read_list(lanes + 1, kind, first, count, body, length, count, NULL);
+    read_list(lanes, 4 + any() % 1000, first, count, body, length, count, NULL);
+    read_list(lanes, kind, first, SISALSHED_MOST_VALUES + 1 + below(9), body, length, count, NULL);
+    if (count > 1 && kind != SISALSHED_PLAIN) {
+        uint32_t last = values[count - 1];
+        values[count - 1] = 0;
+        write_list(lanes, kind, first, values, count, SISALSHED_LARGEST_BODY, NULL);
+        write_file(lanes, kind, first, values, count, SISALSHED_LARGEST_FILE, NULL);
+        values[count - 1] = last;
+    }
     read_file(file, below(file_length), count, NULL);
     file[below(file_length)] ^= (uint8_t)(1u << below(8));
     read_file(file, file_length, count, NULL);
 }
 
-/* A lie of one element about the output, and one about the input. */
-static void past(void) {
+/* A list of more values than there are in any. */
+static void too_many(void) {
+    static uint32_t values[SISALSHED_MOST_VALUES + 1];
+    write_list(1, SISALSHED_PLAIN, 0, values, SISALSHED_MOST_VALUES + 1, 0, NULL);
+    write_file(1, SISALSHED_PLAIN, 0, values, SISALSHED_MOST_VALUES + 1, 0, NULL);
+}
+
+/* A lie of one element about the output, or about the input. */
+static int past_the_output(void) {
     static const uint32_t values[32] = {1, 2, 3};
-    uint8_t *short_output = (uint8_t *)lend(7);
-    sisalshed_compress(1, SISALSHED_PLAIN, 0, values, 32, short_output, 8, 2);
-    free(short_output);
-    uint32_t *short_input = (uint32_t *)lend(31 * sizeof short_input[0]);
-    memset(short_input, 0, 31 * sizeof short_input[0]);
-    printf("width %u\n", (unsigned)sisalshed_num_bits(1, SISALSHED_PLAIN, 0, short_input, 32).length);
-    free(short_input);
+    uint8_t *output = (uint8_t *)lend(7);
+    struct sisalshed_answer answer = sisalshed_compress(1, SISALSHED_PLAIN, 0, values, 32, output, 8, 2);
+    free(output);
+    return (int)answer.number;
+}
+
+static int past_the_input(void) {
+    uint32_t *input = (uint32_t *)lend(31 * sizeof input[0]);
+    memset(input, 0, 31 * sizeof input[0]);
+    struct sisalshed_answer answer = sisalshed_num_bits(1, SISALSHED_PLAIN, 0, input, 32);
+    free(input);
+    return (int)answer.number;
 }
 
 int main(int argc, char **argv) {
+    if (argc > 1 && strcmp(argv[1], "output") == 0) {
+        return past_the_output();
+    }
+    if (argc > 1 && strcmp(argv[1], "input") == 0) {
+        return past_the_input();
+    }
     long rounds = argc > 1 ? strtol(argv[1], NULL, 10) : 0;
     if (rounds <= 0) {
-        fprintf(stderr, "usage: lent ROUNDS [past]\n");
+        fprintf(stderr, "usage: lent ROUNDS | output | input\n");
         return 2;
     }
     for (long at = 0; at < rounds; at++) {
         round_of();
     }
-    if (argc > 2) {
-        past();
-    }
+    too_many();
     printf("%u of the calls were refused\n", refused);
     printf("%u passed, %u failed\n", passed, failed);
     return failed == 0 ? 0 : 1;

@@ -24,19 +24,20 @@ static size_t body_length;
 static size_t lanes;
 static uint32_t kind;
 static size_t most;
+static volatile size_t sink;
 
 static void nothing(void) {}
-static void compressed_block_size(void) { sisalshed_compressed_block_size(lanes, 32); }
-static void compress(void) { sisalshed_compress(lanes, kind, 0, values, SISALSHED_BLOCK(lanes), body, sizeof body, 32); }
-static void decompress(void) { sisalshed_decompress(lanes, kind, 0, body, sizeof body, out, SISALSHED_MOST_VALUES, 32); }
-static void num_bits(void) { sisalshed_num_bits(lanes, kind, 0, values, SISALSHED_BLOCK(lanes)); }
-static void measure_list(void) { sisalshed_measure_list(lanes, kind, 0, values, COUNT); }
+static void compressed_block_size(void) { sink = sisalshed_compressed_block_size(lanes, 32).length; }
+static void compress(void) { sink = sisalshed_compress(lanes, kind, 0, values, SISALSHED_BLOCK(lanes), body, sizeof body, 32).length; }
+static void decompress(void) { sink = sisalshed_decompress(lanes, kind, 0, body, sizeof body, out, SISALSHED_MOST_VALUES, 32).length; }
+static void num_bits(void) { sink = sisalshed_num_bits(lanes, kind, 0, values, SISALSHED_BLOCK(lanes)).length; }
+static void measure_list(void) { sink = sisalshed_measure_list(lanes, kind, 0, values, COUNT).length; }
 static void write_list(void) { body_length = sisalshed_write_list(lanes, kind, 0, values, COUNT, SISALSHED_ARRAY(body)).length; }
-static void read_list(void) { sisalshed_read_list(lanes, kind, 0, COUNT, body, body_length, SISALSHED_ARRAY(out)); }
+static void read_list(void) { sink = sisalshed_read_list(lanes, kind, 0, COUNT, body, body_length, SISALSHED_ARRAY(out)).length; }
 static void write_file(void) { file_length = sisalshed_write_file(lanes, kind, 0, values, COUNT, SISALSHED_ARRAY(file)).length; }
-static void read_file(void) { sisalshed_read_file(file, file_length, SISALSHED_ARRAY(out)); }
-static void header(void) { sisalshed_header(file, file_length); }
-static void body_of(void) { sisalshed_body(file, file_length); }
+static void read_file(void) { sink = sisalshed_read_file(file, file_length, SISALSHED_ARRAY(out)).length; }
+static void header(void) { sink = sisalshed_header(file, file_length).count; }
+static void body_of(void) { sink = sisalshed_body(file, file_length).length; }
 
 /* The bytes of stack that `call` took. */
 static size_t depth(void (*call)(void)) {

@@ -45,9 +45,10 @@ fn main() -> ExitCode {
         return ExitCode::from(2);
     };
     let mut values = [0; LARGEST_BLOCK];
+    let length = block(lanes).unwrap_or(0);
     let (text, status) = match block_at(&file, place, lanes, mode, &mut values) {
         Ok(next) => {
-            let lines: String = values[..block(lanes)].iter().map(|value| format!("{value}\n")).collect();
+            let lines: String = values[..length].iter().map(|value| format!("{value}\n")).collect();
             (format!("{lines}next={next}\n"), ExitCode::SUCCESS)
         }
         Err(refusal) => (format!("refused={}\n", refusal.number()), ExitCode::FAILURE),

@@ -39,9 +39,20 @@ pub const LARGEST_BODY: usize = 16512;
 /// The bytes of the largest file: room that every file fits.
 pub const LARGEST_FILE: usize = 16566;
 
-/// The values of a block: 32 for each lane.
-pub const fn block(lanes: usize) -> usize {
-    32 * lanes
+/// The values of a block: 32, 128 or 256 for 1, 4 or 8 lanes.
+///
+/// Refuses [`BadLanes`](Refusal::BadLanes).
+///
+/// ```
+/// use sisalshed::{block, Refusal};
+/// assert_eq!(block(4), Ok(128));
+/// assert_eq!(block(2), Err(Refusal::BadLanes));
+/// ```
+pub const fn block(lanes: usize) -> Result<usize, Refusal> {
+    match lanes {
+        1 | 4 | 8 => Ok(32 * lanes),
+        _ => Err(Refusal::BadLanes),
+    }
 }
 
 fn length(answer: c::Answer) -> Result<usize, Refusal> {
@@ -98,8 +109,8 @@ pub fn compress(
     })
 }
 
-/// Unpacks a block from any bytes that are long enough, to the front of `decompressed`. Answers the bytes used. Nothing is tested of
-/// what the bytes say.
+/// Unpacks a block from any bytes that are long enough, to the front of `decompressed`. Answers the bytes used, and not how many
+/// values there are: that is [`block`]. Nothing is tested of what the bytes say.
 ///
 /// Refuses [`BadLanes`](Refusal::BadLanes), [`BadWidth`](Refusal::BadWidth), [`NoRoom`](Refusal::NoRoom),
 /// [`CutShort`](Refusal::CutShort).
@@ -233,7 +244,7 @@ pub struct Header {
     pub mode: Mode,
     /// How many values the list has. It is not tested against [`MOST_VALUES`]: reading is.
     pub count: u32,
-    /// How many bytes the body has.
+    /// How many bytes the body has. It may be more than [`LARGEST_BODY`]: reading tests that.
     pub bytes: u32,
 }
 
@@ -262,7 +273,8 @@ pub fn header(file: &[u8]) -> Result<Header, Refusal> {
     }
 }
 
-/// The body of a list file: the part of `file` from after the empty line to the end. Of the body nothing is tested but its length.
+/// The body of a list file: the part of `file` from after the empty line to the end, which may be longer than [`LARGEST_BODY`]. Of
+/// the body nothing is tested but that its length is what the header says.
 ///
 /// Refuses [`BadHeader`](Refusal::BadHeader).
 ///

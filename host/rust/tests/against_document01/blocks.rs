@@ -117,7 +117,7 @@ fn blocks_agree() {
         }
     }
     let BlockTallies { size, pack, unpack, width } = &tallies;
-    report("blocks_agree", &[size, pack, unpack, width]);
+    report("blocks_agree", "calls compared", &[size, pack, unpack, width]);
     size.reaches("payload size", &[0, 1, 2], 100);
     pack.reaches("pack", &[0, 1, 2, 3, 4, 6], 100);
     unpack.reaches("unpack", &[0, 1, 2, 4, 5], 100);

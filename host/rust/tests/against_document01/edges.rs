@@ -58,7 +58,7 @@ fn edges() {
     edges_of_widths(&mut tally);
     edges_of_lists(&mut tally);
     edges_of_files(&mut tally);
-    report("edges", &[&tally]);
+    report("edges", "answers held to the document", &[&tally]);
     tally.reaches("edges", &[0, 2, 6, 8, 9, 10, 11], 1);
 }
 

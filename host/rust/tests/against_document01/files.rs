@@ -95,7 +95,7 @@ fn files_agree() {
         }
     }
     let FileTallies { header, body, read } = &opened;
-    report("files_agree", &[&write, header, body, read]);
+    report("files_agree", "calls compared", &[&write, header, body, read]);
     write.reaches("write a file", &[0, 1, 4, 7, 8], 50);
     header.reaches("header", &[0], 1_000);
     body.reaches("body", &[0], 1_000);
@@ -111,7 +111,7 @@ fn damaged_files_agree() {
         compare_opening(&mut dice, &mut opened, &file);
     }
     let FileTallies { header, body, read } = &opened;
-    report("damaged_files_agree", &[header, body, read]);
+    report("damaged_files_agree", "calls compared", &[header, body, read]);
     header.reaches("header", &[0, 12], 1_000);
     body.reaches("body", &[0, 12], 1_000);
     let answers = [0, 2, 4, 5, 7, 8, 9, 10, 11, 12];

@@ -71,7 +71,7 @@ fn lists_agree() {
             compare_read_list(&mut dice, &mut read, lanes, mode, list.len(), &body);
         }
     }
-    report("lists_agree", &[&measure, &write, &read]);
+    report("lists_agree", "calls compared", &[&measure, &write, &read]);
     measure.reaches("measure a list", &[0, 1, 7, 8], 50);
     write.reaches("write a list", &[0, 1, 4, 7, 8], 50);
     read.reaches("read a list", &[0, 4], 50);
@@ -90,7 +90,7 @@ fn damaged_bodies_agree() {
         let lanes = told_lanes(&mut dice, lanes);
         compare_read_list(&mut dice, &mut read, lanes, mode, count, &body);
     }
-    report("damaged_bodies_agree", &[&read]);
+    report("damaged_bodies_agree", "calls compared", &[&read]);
     let answers = [0, 1, 2, 4, 5, 7, 8, 9, 10, 11];
     read.reaches("read a damaged list", &answers, 100);
 }

@@ -24,8 +24,8 @@ impl Tally {
     }
 }
 
-/// One line with the sum of the tallies of a test.
-pub fn report(test: &str, tallies: &[&Tally]) {
+/// One line with the sum of the tallies of a test, and what was counted.
+pub fn report(test: &str, what: &str, tallies: &[&Tally]) {
     let mut sum = [0; 13];
     for tally in tallies {
         for (total, times) in sum.iter_mut().zip(tally.answers) {
@@ -35,5 +35,5 @@ pub fn report(test: &str, tallies: &[&Tally]) {
     let calls: usize = sum.iter().sum();
     let answers: Vec<String> =
         sum.iter().enumerate().map(|(answer, times)| format!("{answer}:{times}")).collect();
-    println!("{test}: {calls} calls compared, {}", answers.join(" "));
+    println!("{test}: {calls} {what}, {}", answers.join(" "));
 }

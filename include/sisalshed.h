@@ -40,8 +40,8 @@ enum sisalshed_refusal {
     SISALSHED_BAD_HEADER = 12   /* header is not as it must be, `bytes` is not the body's length, or there is no such kind */
 };
 
-/* The kind of a mode. Order is asked by the list and file calls alone: the block calls take any values, and differences wrap. Beside SISALSHED_PLAIN and SISALSHED_STRICT_NONE the first number is ignored. Any other kind is 12, before every
- * other number. */
+/* The kind of a mode. Order is asked by the list and file calls alone: the block calls take any values, and differences wrap. Beside
+ * SISALSHED_PLAIN and SISALSHED_STRICT_NONE the first number is ignored. Any other kind is 12, before every other number. */
 enum sisalshed_kind {
     SISALSHED_PLAIN = 0,       /* values in no order */
     SISALSHED_SORTED = 1,      /* each at least the one before, the first at least the first number */

@@ -3,7 +3,8 @@
  *
  *     page_list FILE
  *
- * Exit status: 0 the pages were printed, 1 refused, 2 they could not be printed whole. Build it from the top of the repository:
+ * Exit status: 0 the pages were printed, 1 refused, 2 they could not be printed whole. A file that cannot be read is refused too, and
+ * standard error says why. Build it from the top of the repository:
  *
  *     rt staticlib sisalshed && cc -O2 -Iinclude host/c/page_list.c target/staticlib/libsisalshed.a -o target/page_list
  */
@@ -20,10 +21,14 @@ static uint32_t pages[SISALSHED_MOST_VALUES];
 static size_t load(const char *name) {
     FILE *stream = fopen(name, "rb");
     if (stream == NULL) {
+        perror(name);
         return 0;
     }
     size_t length = fread(file, 1, sizeof file, stream);
     int failed = ferror(stream);
+    if (failed) {
+        perror(name);
+    }
     fclose(stream);
     return failed || length == sizeof file ? 0 : length;
 }

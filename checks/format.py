@@ -1,5 +1,6 @@
 #!/usr/bin/env python3
-"""Holds docs/FORMAT.md to document 01 as files.py has it: the file of section 1, and every case of section 12.
+"""Holds docs/FORMAT.md to document 01 as files.py has it: the file of section 1, and every case of section 12. And counts, for README, how many
+changes of one bit in the body of examples/sound.list give another sound file.
 
     python3 checks/format.py [PROGRAM]
 
@@ -14,7 +15,8 @@ import tempfile
 
 from files import file_of, header_of, read_file
 
-PAGE = (pathlib.Path(__file__).resolve().parent.parent / "docs" / "FORMAT.md").read_text()
+TOP = pathlib.Path(__file__).resolve().parent.parent
+PAGE = (TOP / "docs" / "FORMAT.md").read_text()
 MOST = 4096
 
 
@@ -67,6 +69,14 @@ def cases():
         yield line, re.sub(rf"^{name}=.*$".encode(), line.encode(), whole, flags=re.M), 12
 
 
+def one_bit():
+    """How many changes of one bit in the body of the sound example there are, and how many of these are read."""
+    file = (TOP / "examples" / "sound.list").read_bytes()
+    start = len(file) - len(header_of(file)[4])
+    changed = [file[:at] + bytes([file[at] ^ (1 << bit)]) + file[at + 1:] for at in range(start, len(file)) for bit in range(8)]
+    return len(changed), sum(read_file(other, MOST)[0] == 0 for other in changed)
+
+
 def written(answer):
     return f"refused={answer}\n" if isinstance(answer, int) else "".join(f"{value}\n" for value in answer)
 
@@ -88,6 +98,8 @@ def main():
             print(f"not so: {name}")
 
     check("the file of section 1", small_file() == file_of(1, ("plain", None), [1, 2, 3]) and header_of(small_file()) is not None)
+    changes, read = one_bit()
+    check(f"README: of {changes} changes of one bit {read} are read", f"Of the {changes} ways to change one bit in the packed part of `examples/sound.list`,\n  {read} are read" in (TOP / "README.md").read_text())
     for name, file, said in cases():
         number, _, read = read_file(file, MOST)
         check(name, said == (number if number != 0 else read))

@@ -1,4 +1,4 @@
-//! The declarations of `include/sisalshed.h`. Nothing compares them with the library but the tests.
+//! The declarations of `include/sisalshed.h`. `checks/declarations.py` holds them to the source, and the tests to the library.
 
 #[repr(C)]
 pub struct Answer {

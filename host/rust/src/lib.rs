@@ -242,7 +242,7 @@ pub struct Header {
     pub lanes: u32,
     /// With its first number.
     pub mode: Mode,
-    /// How many values the list has. It is not tested against [`MOST_VALUES`]: reading is.
+    /// How many values the list has. It may be more than [`MOST_VALUES`]: reading tests that.
     pub count: u32,
     /// How many bytes the body has. It may be more than [`LARGEST_BODY`]: reading tests that.
     pub bytes: u32,

@@ -16,8 +16,16 @@
 #ifndef SISALSHED_H
 #define SISALSHED_H
 
+#if !defined(__x86_64__)
+#error "libsisalshed.a is for x86-64"
+#endif
+
 #include <stddef.h>
 #include <stdint.h>
+
+#if SIZE_MAX < UINT64_MAX
+#error "libsisalshed.a takes lengths of 64 bits"
+#endif
 
 #ifdef __cplusplus
 extern "C" {
@@ -41,7 +49,8 @@ enum sisalshed_refusal {
 };
 
 /* The kind of a mode. Order is asked by the list and file calls alone: the block calls take any values, and differences wrap. Beside
- * SISALSHED_PLAIN and SISALSHED_STRICT_NONE the first number is ignored. Any other kind is 12, before every other number. */
+ * SISALSHED_PLAIN and SISALSHED_STRICT_NONE the first number is ignored. Any other kind is 12, before every other number. In a call the
+ * kind stands before the first number: a first number of 0 to 3 in its place is taken as a kind. */
 enum sisalshed_kind {
     SISALSHED_PLAIN = 0,       /* values in no order */
     SISALSHED_SORTED = 1,      /* each at least the one before, the first at least the first number */
@@ -61,12 +70,21 @@ enum sisalshed_kind {
 #define SISALSHED_LARGEST_FILE 16566    /* bytes of the largest file that is written or read. Whoever fetches a file lends one byte
                                            more, so as to see that it is not longer */
 
+/* What the compiler is told of each call: its calling convention, that its answer must be looked at, that no pointer is null, and, for gcc
+ * 10 and later, which length belongs to which pointer. It then warns of a length that is over an array that it can see. */
 #if defined(__GNUC__)
-#define SISALSHED_ANSWERS __attribute__((warn_unused_result))
-#define SISALSHED_LENT __attribute__((warn_unused_result, nonnull))
+#define SISALSHED_ANSWERS __attribute__((sysv_abi, warn_unused_result))
+#define SISALSHED_LENT __attribute__((sysv_abi, warn_unused_result, nonnull))
 #else
 #define SISALSHED_ANSWERS
 #define SISALSHED_LENT
+#endif
+#if defined(__GNUC__) && !defined(__clang__) && __GNUC__ >= 10
+#define SISALSHED_READS(pointer, length) __attribute__((access(read_only, pointer, length)))
+#define SISALSHED_WRITES(pointer, length) __attribute__((access(write_only, pointer, length)))
+#else
+#define SISALSHED_READS(pointer, length)
+#define SISALSHED_WRITES(pointer, length)
 #endif
 
 /* An array and its length in elements, as two arguments. It takes an array, not a pointer: gcc -Wall warns of a pointer here. */
@@ -103,7 +121,7 @@ struct sisalshed_answer sisalshed_compressed_block_size(size_t lanes, uint32_t w
 
 /* Packs exactly a block of values at a width. Answers the payload's bytes, and leaves them at the front of `compressed`.
  * Refuses 12 (kind), 1, 2, 3, 4, 6. */
-SISALSHED_LENT
+SISALSHED_LENT SISALSHED_READS(4, 5) SISALSHED_WRITES(6, 7)
 struct sisalshed_answer sisalshed_compress(size_t lanes, uint32_t kind, uint32_t first,
                                            const uint32_t *decompressed, size_t decompressed_length,
                                            uint8_t *compressed, size_t compressed_length, uint32_t width);
@@ -111,23 +129,23 @@ struct sisalshed_answer sisalshed_compress(size_t lanes, uint32_t kind, uint32_t
 /* Unpacks a block from any bytes that are long enough. Answers the bytes used, 4 x lanes x width, and not how many values there are: it
  * leaves SISALSHED_BLOCK(lanes) values at the front of `decompressed`. Nothing is tested of what the bytes say.
  * Refuses 12 (kind), 1, 2, 4, 5. */
-SISALSHED_LENT
+SISALSHED_LENT SISALSHED_READS(4, 5) SISALSHED_WRITES(6, 7)
 struct sisalshed_answer sisalshed_decompress(size_t lanes, uint32_t kind, uint32_t first,
                                              const uint8_t *compressed, size_t compressed_length,
                                              uint32_t *decompressed, size_t decompressed_length, uint32_t width);
 
 /* Answers the least width that exactly a block of values fits, as `length`. Refuses 12 (kind), 1, 3. */
-SISALSHED_LENT
+SISALSHED_LENT SISALSHED_READS(4, 5)
 struct sisalshed_answer sisalshed_num_bits(size_t lanes, uint32_t kind, uint32_t first,
                                            const uint32_t *decompressed, size_t decompressed_length);
 
 /* Answers the bytes of the body that a list has. Refuses 12 (kind), 1, 7, 8. */
-SISALSHED_LENT
+SISALSHED_LENT SISALSHED_READS(4, 5)
 struct sisalshed_answer sisalshed_measure_list(size_t lanes, uint32_t kind, uint32_t first,
                                                const uint32_t *values, size_t values_length);
 
 /* Writes the body of a list. Answers its bytes, and leaves them at the front of `body`. Refuses 12 (kind), 1, 7, 8, 4. */
-SISALSHED_LENT
+SISALSHED_LENT SISALSHED_READS(4, 5) SISALSHED_WRITES(6, 7)
 struct sisalshed_answer sisalshed_write_list(size_t lanes, uint32_t kind, uint32_t first,
                                              const uint32_t *values, size_t values_length,
                                              uint8_t *body, size_t body_length);
@@ -135,36 +153,36 @@ struct sisalshed_answer sisalshed_write_list(size_t lanes, uint32_t kind, uint32
 /* Reads a list of `count` values, if the body is exactly what sisalshed_write_list writes for one. Answers the count, and leaves the
  * values at the front of `values`, which needs room for the count only.
  * Refuses 12 (kind), 1, 7, 4; then block by block 5, 2, 5, 10, 9, 8; at the end 11. */
-SISALSHED_LENT
+SISALSHED_LENT SISALSHED_READS(5, 6) SISALSHED_WRITES(7, 8)
 struct sisalshed_answer sisalshed_read_list(size_t lanes, uint32_t kind, uint32_t first, size_t count,
                                             const uint8_t *body, size_t body_length,
                                             uint32_t *values, size_t values_length);
 
 /* Answers what the five lines of a list file say. Of the body nothing is tested but its length. Refuses 12. */
-SISALSHED_LENT
+SISALSHED_LENT SISALSHED_READS(1, 2)
 struct sisalshed_header_answer sisalshed_header(const uint8_t *file, size_t file_length);
 
 /* Answers where the body of a list file stands. Of the body nothing is tested but its length. Refuses 12. */
-SISALSHED_LENT
+SISALSHED_LENT SISALSHED_READS(1, 2)
 struct sisalshed_body_answer sisalshed_body(const uint8_t *file, size_t file_length);
 
 /* Reads a list file, if it is exactly what sisalshed_write_file writes for a list. Answers the count, and leaves the values at the
  * front of `values`, which needs room for the count only. Refuses 12 (header), then as sisalshed_read_list. */
-SISALSHED_LENT
+SISALSHED_LENT SISALSHED_READS(1, 2) SISALSHED_WRITES(3, 4)
 struct sisalshed_answer sisalshed_read_file(const uint8_t *file, size_t file_length,
                                             uint32_t *values, size_t values_length);
 
 /* Writes the file of a list, header and body. Answers its bytes, and leaves them at the front of `file`.
  * Refuses 12 (kind), 1, 7, 8, 4. */
-SISALSHED_LENT
+SISALSHED_LENT SISALSHED_READS(4, 5) SISALSHED_WRITES(6, 7)
 struct sisalshed_answer sisalshed_write_file(size_t lanes, uint32_t kind, uint32_t first,
                                              const uint32_t *values, size_t values_length,
                                              uint8_t *file, size_t file_length);
 
 /* The name of a number of refusal, as in the enum; "" for a number that is none of them. */
 static inline const char *sisalshed_refusal_name(uint32_t number) {
-    static const char *const names[13] = {"ACCEPTED",  "BAD_LANES", "BAD_WIDTH",    "BAD_BLOCK", "NO_ROOM",  "CUT_SHORT", "TOO_WIDE",
-                                          "TOO_MANY", "OUT_OF_ORDER", "NOT_LEAST", "BAD_FILL", "LEFT_OVER", "BAD_HEADER"};
+    static const char names[13][13] = {"ACCEPTED", "BAD_LANES",    "BAD_WIDTH", "BAD_BLOCK", "NO_ROOM",   "CUT_SHORT", "TOO_WIDE",
+                                       "TOO_MANY", "OUT_OF_ORDER", "NOT_LEAST", "BAD_FILL",  "LEFT_OVER", "BAD_HEADER"};
     return number < 13 ? names[number] : "";
 }
 

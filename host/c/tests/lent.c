@@ -257,15 +257,17 @@ static void too_many(void) {
 /* A lie of one element about the output, or about the input. */
 static int past_the_output(void) {
     static const uint32_t values[32] = {1, 2, 3};
-    uint8_t *output = (uint8_t *)lend(7);
+    volatile size_t lent = 7; /* volatile, or gcc would see it */
+    uint8_t *output = (uint8_t *)lend(lent);
     struct sisalshed_answer answer = sisalshed_compress(1, SISALSHED_PLAIN, 0, values, 32, output, 8, 2);
     free(output);
     return (int)answer.number;
 }
 
 static int past_the_input(void) {
-    uint32_t *input = (uint32_t *)lend(31 * sizeof input[0]);
-    memset(input, 0, 31 * sizeof input[0]);
+    volatile size_t lent = 31;
+    uint32_t *input = (uint32_t *)lend(lent * sizeof input[0]);
+    memset(input, 0, lent * sizeof input[0]);
     struct sisalshed_answer answer = sisalshed_num_bits(1, SISALSHED_PLAIN, 0, input, 32);
     free(input);
     return (int)answer.number;

@@ -36,7 +36,8 @@ pub const LARGEST_BLOCK: usize = 256;
 pub const LARGEST_PAYLOAD: usize = 1024;
 /// The bytes of the largest body: room that every body fits.
 pub const LARGEST_BODY: usize = 16512;
-/// The bytes of the largest file: room that every file fits.
+/// The bytes of the largest file: room that every file fits. Whoever fetches a file into an array lends one byte more, so as to see
+/// that it is not longer.
 pub const LARGEST_FILE: usize = 16566;
 
 /// The values of a block: 32, 128 or 256 for 1, 4 or 8 lanes.

@@ -1,7 +1,8 @@
 //! Document 01 in plain Rust: blocks, lists and list files.
 //!
-//! This is written from the document alone and shares nothing with the library. It is meant to be held
-//! against the document sentence by sentence: the sentences stand in the comments, in quotation marks.
+//! This is written from the document, without a look at the library, and shares nothing with it. What the
+//! document leaves open is read as in docs/DECISIONS.md. It is meant to be held against the document
+//! sentence by sentence: the sentences stand in the comments, in quotation marks.
 //! It is slow where slow is plainer.
 //!
 //! `room` is the length of the output that a caller lends: bytes for writing, values for reading. An

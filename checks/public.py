@@ -1,40 +1,58 @@
 #!/usr/bin/env python3
-"""Lists the public functions of every library, and where it is proved that their contracts leave no choice.
+"""Lists the public functions of every library, and where it is proved that they ask nothing of a caller and leave no choice.
 
     python3 checks/public.py
 
-A library is a crate with src/lib.rt. For a function f there is a line `f-determined : ..` in proofs/Determined.antt of its crate: two
-answers that the contract of f allows for one input are equal, and so is what f leaves in the memory that it was lent. Functions that
-cannot have one are named below, and docs/PROMISES.md says why. The last line is 'N passed, 0 failed'.
+A library is a crate with src/lib.rt. For a function f there are two lines in proofs/Determined.antt of its crate, each over the contract
+that the prover reads off the source: `f-asks-nothing : AsksNothing ..`, what f requires holds of all arguments, and `f-determined : ..`, two
+answers that the contract of f allows for one input are equal, and so is what f leaves in the memory that it was lent. Functions that cannot
+have the second are named below, and docs/PROMISES.md says why. The last line is 'N passed, 0 failed'.
 """
 import pathlib
 import re
 import sys
 
 TOP = pathlib.Path(__file__).resolve().parent.parent
-EXCEPTIONS = {("streams", "read_input"), ("streams", "write_output")}  # docs/PROMISES.md, "What no contract says"
-PUBLIC = re.compile(r'^( *)pub (?:extern "C" )?fn (\w+)\(', re.M)
-CLAUSES = re.compile(r"^ +(requires|ensures) ", re.M)
+NOT_DETERMINED = {("streams", "read_input"), ("streams", "write_output")}  # docs/PROMISES.md, "What no contract says"
+PUBLIC = re.compile(r'^ *pub (?:extern "C" )?fn (\w+)\(', re.M)
+CONTRACT = re.compile(r"^use Rattle·(\w+)·proofs\.proofs\.(?:\w+\.)*(\w+)\.(Reads|Kinds) as (\S+)$", re.M)
+ASKS_NOTHING = re.compile(r"^(\S+)-asks-nothing : AsksNothing (\S+)-kinds\.ps \2\.Pre$", re.M)
+DETERMINED = re.compile(r"^(\S+)-determined : \w*Determined (\S+)-kinds\.ps \2-kinds\.r \2\.Post\b", re.M)
 
 
 def functions(crate):
+    """The file and the name of each public function."""
     for source in sorted((crate / "src").glob("**/*.rt")):
-        text = source.read_text()
-        for found in PUBLIC.finditer(text):
-            rest = text[found.end():]
-            head = rest[:re.search(r"^ *\{|\{$", rest, re.M).start()]
-            yield source.relative_to(TOP), found[2], CLAUSES.findall(head)
+        for name in PUBLIC.findall(source.read_text()):
+            yield source.relative_to(TOP), name
+
+
+def proved(crate):
+    """The functions of the crate that have the one line, and those that have the other."""
+    table, modules = crate / "proofs" / "Determined.antt", crate / "proofs" / "Lib.antt"
+    if not table.exists() or not re.search(r"^(?:pub )?mod Determined$", modules.read_text(), re.M):
+        return set(), set()
+    text = table.read_text()
+    contracts = {(alias, part): name for package, name, part, alias in CONTRACT.findall(text) if package == crate.name}
+
+    def lines(shape):
+        """The functions that have such a line, over their own contract."""
+        said = ((line.replace("-", "_"), alias) for line, alias in shape.findall(text))
+        return {name for name, alias in said if contracts.get((alias, "Reads")) == contracts.get((f"{alias}-kinds", "Kinds")) == name}
+
+    return lines(ASKS_NOTHING), lines(DETERMINED)
 
 
 def main():
     passed = failed = 0
     for crate in sorted(path.parent.parent for path in (TOP / "crates").glob("*/src/lib.rt")):
-        table = crate / "proofs" / "Determined.antt"
-        proved = set(re.findall(r"^(\S+)-determined : ", table.read_text(), re.M)) if table.exists() else set()
-        for source, name, clauses in functions(crate):
-            known = (crate.name, name) in EXCEPTIONS
-            good = "requires" not in clauses and (known or name.replace("_", "-") in proved)
-            print(f"{source}: {name}: {'exception' if known else 'determined' if good else 'NOT DETERMINED'}")
+        free, determined = proved(crate)
+        for source, name in functions(crate):
+            exception = (crate.name, name) in NOT_DETERMINED
+            asks = "asks nothing" if name in free else "MAY ASK SOMETHING"
+            answers = "exception" if exception else "determined" if name in determined else "NOT DETERMINED"
+            good = name in free and (exception or name in determined)
+            print(f"{source}: {name}: {asks}, {answers}")
             passed, failed = passed + good, failed + (not good)
     print(f"{passed} passed, {failed} failed")
     sys.exit(1 if failed else 0)

@@ -1,7 +1,7 @@
--- For each public function of the crate: two answers that its contract allows for one input are equal, and so is what it leaves in the
--- memory that it was lent to write.
+-- For each public function of the crate: it asks nothing of its caller; two answers that its contract allows for one input are equal, and so
+-- is what it leaves in the memory that it was lent to write.
 use mathlib.Core.Path.{sym, _∙_}
-use Rattle.layout.proofs.Determined.{AnswerDetermined, Determined}
+use Rattle.layout.proofs.Determined.{AsksNothing, AnswerDetermined, Determined}
 use Rattle.blocks.proofs.is_lanes.Reads as is-lanes
 use Rattle.blocks.proofs.is_lanes.Kinds as is-lanes-kinds
 use Rattle.blocks.proofs.compressed_block_size.Reads as compressed-block-size
@@ -17,23 +17,44 @@ use Rattle.blocks.proofs.refusal.Refusal.is_accepted.Kinds as is-accept
 use Rattle.blocks.proofs.refusal.Refusal.number.Reads as number
 use Rattle.blocks.proofs.refusal.Refusal.number.Kinds as number-kinds
 
+is-lanes-asks-nothing : AsksNothing is-lanes-kinds.ps is-lanes.Pre
+is-lanes-asks-nothing κs a = tt
+
 is-lanes-determined : AnswerDetermined is-lanes-kinds.ps is-lanes-kinds.r is-lanes.Post
 is-lanes-determined κs a z z′ e e′ p q = p ∙ sym q
+
+compressed-block-size-asks-nothing : AsksNothing compressed-block-size-kinds.ps compressed-block-size.Pre
+compressed-block-size-asks-nothing κs a = tt
 
 compressed-block-size-determined : AnswerDetermined compressed-block-size-kinds.ps compressed-block-size-kinds.r compressed-block-size.Post
 compressed-block-size-determined κs a z z′ e e′ p q = p ∙ sym q
 
+compress-asks-nothing : AsksNothing compress-kinds.ps compress.Pre
+compress-asks-nothing κs a = tt
+
 compress-determined : Determined compress-kinds.ps compress-kinds.r compress.Post (λ κs e. e .1 .1 .1 .0 .now)
 compress-determined κs a z z′ e e′ p q = (p .0 ∙ sym (q .0), p .1 ∙ sym (q .1))
+
+decompress-asks-nothing : AsksNothing decompress-kinds.ps decompress.Pre
+decompress-asks-nothing κs a = tt
 
 decompress-determined : Determined decompress-kinds.ps decompress-kinds.r decompress.Post (λ κs e. e .1 .1 .1 .0 .now)
 decompress-determined κs a z z′ e e′ p q = (p .0 ∙ sym (q .0), p .1 ∙ sym (q .1))
 
+num-bits-asks-nothing : AsksNothing num-bits-kinds.ps num-bits.Pre
+num-bits-asks-nothing κs a = tt
+
 num-bits-determined : AnswerDetermined num-bits-kinds.ps num-bits-kinds.r num-bits.Post
 num-bits-determined κs a z z′ e e′ p q = p ∙ sym q
 
+is-accepted-asks-nothing : AsksNothing is-accepted-kinds.ps is-accepted.Pre
+is-accepted-asks-nothing κs a = tt
+
 is-accepted-determined : AnswerDetermined is-accepted-kinds.ps is-accepted-kinds.r is-accepted.Post
 is-accepted-determined κs a z z′ e e′ p q = p ∙ sym q
+
+number-asks-nothing : AsksNothing number-kinds.ps number.Pre
+number-asks-nothing κs a = tt
 
 number-determined : AnswerDetermined number-kinds.ps number-kinds.r number.Post
 number-determined κs a z z′ e e′ p q = p ∙ sym q

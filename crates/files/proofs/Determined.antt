@@ -1,7 +1,7 @@
--- For each public function of the crate: two answers that its contract allows for one input are equal, and so is what it leaves in the
--- memory that it was lent to write.
+-- For each public function of the crate: it asks nothing of its caller; two answers that its contract allows for one input are equal, and so
+-- is what it leaves in the memory that it was lent to write.
 use mathlib.Core.Path.{sym, _∙_}
-use Rattle.layout.proofs.Determined.{AnswerDetermined, SeenDetermined, Determined}
+use Rattle.layout.proofs.Determined.{AsksNothing, AnswerDetermined, SeenDetermined, Determined}
 use Rattle.files.proofs.header.Reads as header
 use Rattle.files.proofs.header.Kinds as header-kinds
 use Rattle.files.proofs.open.Reads as open-call
@@ -13,18 +13,33 @@ use Rattle.files.proofs.write.Kinds as write-kinds
 use Rattle.files.proofs.settings.Reads as settings
 use Rattle.files.proofs.settings.Kinds as settings-kinds
 
+header-asks-nothing : AsksNothing header-kinds.ps header.Pre
+header-asks-nothing κs a = tt
+
 header-determined : AnswerDetermined header-kinds.ps header-kinds.r header.Post
 header-determined κs a z z′ e e′ p q = p ∙ sym q
+
+open-asks-nothing : AsksNothing open-call-kinds.ps open-call.Pre
+open-asks-nothing κs a = tt
 
 -- what it hands back is a part of its own file: the bytes of the part
 open-determined : SeenDetermined open-call-kinds.ps open-call-kinds.r open-call.Post (λ κs z. z .now)
 open-determined κs a z z′ e e′ p q = p ∙ sym q
 
+read-asks-nothing : AsksNothing read-kinds.ps read.Pre
+read-asks-nothing κs a = tt
+
 read-determined : Determined read-kinds.ps read-kinds.r read.Post (λ κs e. e .1 .0 .now)
 read-determined κs a z z′ e e′ p q = (p .0 ∙ sym (q .0), p .1 ∙ sym (q .1))
 
+write-asks-nothing : AsksNothing write-kinds.ps write.Pre
+write-asks-nothing κs a = tt
+
 write-determined : Determined write-kinds.ps write-kinds.r write.Post (λ κs e. e .1 .1 .1 .0 .now)
 write-determined κs a z z′ e e′ p q = (p .0 ∙ sym (q .0), p .1 ∙ sym (q .1))
+
+settings-asks-nothing : AsksNothing settings-kinds.ps settings.Pre
+settings-asks-nothing κs a = tt
 
 settings-determined : AnswerDetermined settings-kinds.ps settings-kinds.r settings.Post
 settings-determined κs a z z′ e e′ p q = p ∙ sym q

@@ -1,7 +1,7 @@
--- For each public function of the crate: two answers that its contract allows for one input are equal, and so is what it leaves in the
--- memory that it was lent to write.
+-- For each public function of the crate: it asks nothing of its caller; two answers that its contract allows for one input are equal, and so
+-- is what it leaves in the memory that it was lent to write.
 use mathlib.Core.Path.{sym, _∙_}
-use Rattle.layout.proofs.Determined.{AnswerDetermined, Determined}
+use Rattle.layout.proofs.Determined.{AsksNothing, AnswerDetermined, Determined}
 use Rattle.lists.proofs.measure.Reads as measure
 use Rattle.lists.proofs.measure.Kinds as measure-kinds
 use Rattle.lists.proofs.write.Reads as write
@@ -9,11 +9,20 @@ use Rattle.lists.proofs.write.Kinds as write-kinds
 use Rattle.lists.proofs.read.Reads as read
 use Rattle.lists.proofs.read.Kinds as read-kinds
 
+measure-asks-nothing : AsksNothing measure-kinds.ps measure.Pre
+measure-asks-nothing κs a = tt
+
 measure-determined : AnswerDetermined measure-kinds.ps measure-kinds.r measure.Post
 measure-determined κs a z z′ e e′ p q = p ∙ sym q
 
+write-asks-nothing : AsksNothing write-kinds.ps write.Pre
+write-asks-nothing κs a = tt
+
 write-determined : Determined write-kinds.ps write-kinds.r write.Post (λ κs e. e .1 .1 .1 .0 .now)
 write-determined κs a z z′ e e′ p q = (p .0 ∙ sym (q .0), p .1 ∙ sym (q .1))
+
+read-asks-nothing : AsksNothing read-kinds.ps read.Pre
+read-asks-nothing κs a = tt
 
 read-determined : Determined read-kinds.ps read-kinds.r read.Post (λ κs e. e .1 .1 .1 .1 .0 .now)
 read-determined κs a z z′ e e′ p q = (p .0 ∙ sym (q .0), p .1 ∙ sym (q .1))

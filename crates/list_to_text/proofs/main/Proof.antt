@@ -1,12 +1,12 @@
--- What goes out lies within the output.
+-- What goes out lies within the output, and is all of it; and an input that is too long is seen to be.
 use mathlib.Core.Path.{_≡_, sym, _∙_, ap}
-use Prim.Native.Nat.{_≤_}
+use Prim.Native.Nat.{suc, _≤_}
 use native.Mathlib.Omega.{arith}
 use lib.ListN.{length, take}
 use lib.Seq.{length-take-le}
 use Rattle.blocks.specs.declared.Answer.{Answer}
 use Rattle.blocks.specs.declared.refusal.Refusal.the-variants.{Accepted}
-use Rattle.programs.specs.Programs.{listToText}
+use Rattle.programs.specs.Programs.{limit, listToText}
 use Rattle.programs.proofs.Theorems.{text-short, whole-answer, answer-within}
 use borrow.Author.Needs.{needs}
 use Rattle.list_to_text.proofs.main.Statement.{statement}
@@ -24,6 +24,10 @@ all-of-it c =
     let i = c .before .before .before .before in
     let input = take (i .read-input .result) (i .read-input .last .0) in
     ap (λ (a : Answer). a .refusal) (c .list-to-text .ensures .0 ∙ whole-answer (listToText input) _ (text-short input))
+
+-- what is read has room for one byte more than an input may have: a longer input, and a read that failed, are over the limit
+room-to-see : (c : tie.After-read-input) → suc limit ≤ length (c .read-input .last .0)
+room-to-see c = omega (arith, c .read-input .kept)
 
 array-share-prefix-output : tie.Need-array-share-prefix-output
 array-share-prefix-output c = within (c .before)

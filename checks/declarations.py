@@ -5,7 +5,7 @@
 
 What each exported function and each struct of the source is in C and in Rust is worked out here, and must stand in include/sisalshed.h and
 host/rust/src/c.rs, with the same names in the same order, and nothing else of that kind beside it. The numbers of the header's enum are held
-to crates/blocks/src/refusal.rt. The last line is 'N passed, M failed'.
+to crates/answers/src/lib.rt. The last line is 'N passed, M failed'.
 """
 import pathlib
 import re
@@ -13,7 +13,7 @@ import sys
 
 TOP = pathlib.Path(__file__).resolve().parent.parent
 SOURCE = (TOP / "crates/sisalshed/src/lib.rt").read_text()
-REFUSALS = (TOP / "crates/blocks/src/refusal.rt").read_text()
+REFUSALS = (TOP / "crates/answers/src/lib.rt").read_text()
 HEADER = (TOP / "include/sisalshed.h").read_text()
 RUST = (TOP / "host/rust/src/c.rs").read_text()
 

@@ -1,9 +1,7 @@
 -- For each public function of the crate: it asks nothing of its caller; two answers that its contract allows for one input are equal, and so
 -- is what it leaves in the memory that it was lent to write.
 use mathlib.Core.Path.{sym, _∙_}
-use Rattle.layout.proofs.Determined.{AsksNothing, AnswerDetermined, Determined}
-use Rattle.blocks.proofs.is_lanes.Reads as is-lanes
-use Rattle.blocks.proofs.is_lanes.Kinds as is-lanes-kinds
+use Rattle.answers.proofs.Contracts.{AsksNothing, AnswerDetermined, Determined}
 use Rattle.blocks.proofs.compressed_block_size.Reads as compressed-block-size
 use Rattle.blocks.proofs.compressed_block_size.Kinds as compressed-block-size-kinds
 use Rattle.blocks.proofs.compress.Reads as compress
@@ -12,16 +10,6 @@ use Rattle.blocks.proofs.decompress.Reads as decompress
 use Rattle.blocks.proofs.decompress.Kinds as decompress-kinds
 use Rattle.blocks.proofs.num_bits.Reads as num-bits
 use Rattle.blocks.proofs.num_bits.Kinds as num-bits-kinds
-use Rattle.blocks.proofs.refusal.Refusal.is_accepted.Reads as is-accepted
-use Rattle.blocks.proofs.refusal.Refusal.is_accepted.Kinds as is-accepted-kinds
-use Rattle.blocks.proofs.refusal.Refusal.number.Reads as number
-use Rattle.blocks.proofs.refusal.Refusal.number.Kinds as number-kinds
-
-is-lanes-asks-nothing : AsksNothing is-lanes-kinds.ps is-lanes.Pre
-is-lanes-asks-nothing κs a = tt
-
-is-lanes-determined : AnswerDetermined is-lanes-kinds.ps is-lanes-kinds.r is-lanes.Post
-is-lanes-determined κs a z z′ e e′ p q = p ∙ sym q
 
 compressed-block-size-asks-nothing : AsksNothing compressed-block-size-kinds.ps compressed-block-size.Pre
 compressed-block-size-asks-nothing κs a = tt
@@ -46,15 +34,3 @@ num-bits-asks-nothing κs a = tt
 
 num-bits-determined : AnswerDetermined num-bits-kinds.ps num-bits-kinds.r num-bits.Post
 num-bits-determined κs a z z′ e e′ p q = p ∙ sym q
-
-is-accepted-asks-nothing : AsksNothing is-accepted-kinds.ps is-accepted.Pre
-is-accepted-asks-nothing κs a = tt
-
-is-accepted-determined : AnswerDetermined is-accepted-kinds.ps is-accepted-kinds.r is-accepted.Post
-is-accepted-determined κs a z z′ e e′ p q = p ∙ sym q
-
-number-asks-nothing : AsksNothing number-kinds.ps number.Pre
-number-asks-nothing κs a = tt
-
-number-determined : AnswerDetermined number-kinds.ps number-kinds.r number.Post
-number-determined κs a z z′ e e′ p q = p ∙ sym q

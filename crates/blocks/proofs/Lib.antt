@@ -1,8 +1,9 @@
 pub mod Places
 pub mod Parts
+pub mod Registers
 pub mod Packing
 pub mod Unpacking
 pub mod Tests
-pub mod Answers
+pub mod Widths
 pub mod Trips
 pub mod Determined

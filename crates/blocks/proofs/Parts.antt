@@ -8,7 +8,7 @@ use lib.ListN.{length, take, List·getD-append}
 use lib.Seq.{getD-take, getD-append-add, length-take-le, drop-length}
 use borrow.Rule.Slice.PartMut.{midOf, putMid, postOf, post-is, same-len-mid}
 use Rattle.layout.specs.Layout.{at, wordAt}
-use Rattle.layout.proofs.Parts.{part-at}
+use Rattle.answers.proofs.Parts.{part-at}
 use Rattle.blocks.specs.kernel.Places.{WordsStored, RowStored}
 
 -- the word at byte i of the part

@@ -1,15 +1,24 @@
--- Laws of a row that is stored, one lane a turn.
+-- Rows of words in the payload; laws of a row that is stored, one lane a turn.
 use mathlib.Core.Path.{_≡_, _∙_, ap}
 use mathlib.Core.Logic.{_≢_}
 use mathlib.Core.List.{List}
 use Prim.Native.Nat.{ℕ, zero, suc, _+_, _*_, _-_, _/_, _%_, _^_, _≤_, _<_}
-use native.Mathlib.Nat.{div-one, add-zero}
+use native.Mathlib.Nat.{div-one, add-zero, mul-assoc, mul-comm}
 use native.Mathlib.Omega.{arith}
 use native.Mathlib.Decide.{ℕ-discrete, decLt}
 use lib.ListN.{length, set, length-set}
+use Rattle.layout.proofs.Products.{below-mul}
 use Rattle.layout.proofs.Stores.{at-same, at-other}
-use Rattle.layout.specs.Layout.{at}
+use Rattle.layout.specs.Layout.{at, payloadSize}
 use Rattle.blocks.specs.kernel.Places.{withWord, WordsStored, RowStored}
+
+-- a payload is n rows of words
+pub payload-words : (L n : ℕ) → payloadSize L n ≡ 4 * (n * L)
+payload-words L n = mul-assoc 4 L n ∙ ap (λ (m : ℕ). 4 * m) (mul-comm L n)
+
+-- each of which lies in it
+pub word-room : (L n w : ℕ) → w < n → 4 * (w * L + L) ≤ payloadSize L n
+word-room L n w h = omega (arith, below-mul L h, payload-words L n)
 
 -- byte b of the word that is stored
 pub with-word-at : (bs : List ℕ) (i v b : ℕ) → b < 4 → i + 4 ≤ length bs → at (withWord bs i v) (i + b) ≡ v / 2 ^ (8 * b) % 256

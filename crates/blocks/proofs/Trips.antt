@@ -7,7 +7,9 @@ use native.Mathlib.Nat.{lt-of-lt-of-le}
 use native.Mathlib.Omega.{arith}
 use lib.ListN.{length, take, drop, length-append}
 use lib.Pow.{pow-mono}
-use Rattle.layout.specs.Layout.{at, blockSize, payloadSize, packed, payloadEntry, over}
+use Rattle.layout.specs.Layout.{at, blockSize, payloadSize, packed, payloadEntry}
+use Rattle.answers.specs.Answers.{over}
+use Rattle.answers.proofs.Answers.{overwritten}
 use Rattle.layout.specs.Width.{fits}
 use Rattle.layout.proofs.Tables.{table-at, table-of, length-packed}
 use Rattle.layout.proofs.RoundTrip.{entry-packed, packed-entry, packed-ext, entry-fits}
@@ -17,7 +19,6 @@ use Rattle.modes.specs.Entries.{firstOf, entries, values}
 use Rattle.modes.proofs.Undo.{values-entries, entries-values, entries-ext, values-ext}
 use Rattle.blocks.specs.Calls.{unpacked, packRefusal, unpackRefusal, packOutput, unpackOutput}
 use Rattle.blocks.proofs.Tests.{Packable, pack-exactly, unpack-exactly}
-use Rattle.blocks.proofs.Answers.{overwritten}
 
 -- a block that fits, packed and unpacked, is the block; bytes behind the payload do not matter
 pub packed-unpacked : (L : ℕ) (m : Mode) (vs : List ℕ) (n : ℕ) (rest : List ℕ) → firstOf m < 2 ^ 32 → length vs ≡ blockSize L → ((k : ℕ) → at vs k < 2 ^ 32)

@@ -1,30 +1,19 @@
 -- "Block calls" of document 01: which refusal each call gives, what it answers, and what it leaves in lent memory.
-use mathlib.Core.Bool.{Bool, not, _||_, cond}
+use mathlib.Core.Bool.{not, cond}
 use mathlib.Core.List.{List}
 use Prim.Native.Nat.{ℕ}
 use lib.Dec.{ltb, eqb}
 use lib.ListN.{length}
-use Rattle.layout.specs.Layout.{at, over, blockSize, payloadSize, table, packed, payloadEntry}
+use Rattle.answers.specs.declared.Answer.{Answer}
+use Rattle.answers.specs.declared.Refusal.{Refusal}
+use Rattle.answers.specs.declared.Refusal.the-variants.{Accepted, BadLanes, BadWidth, BadBlock, NoRoom, CutShort, TooWide}
+use Rattle.answers.specs.Refusals.{accepted, refuse}
+use Rattle.answers.specs.Answers.{answer, written}
+use Rattle.layout.specs.Layout.{at, isLanes, blockSize, payloadSize, table, packed, payloadEntry}
 use Rattle.layout.specs.Width.{fits, leastWidth}
 use Rattle.modes.specs.declared.Mode.{Mode}
 use Rattle.modes.specs.Entries.{entries, values}
-use Rattle.blocks.specs.declared.Answer.{Answer}
 use Rattle.blocks.specs.declared.Width.{Width}
-use Rattle.blocks.specs.declared.refusal.Refusal.{Refusal}
-use Rattle.blocks.specs.declared.refusal.Refusal.the-variants.{Accepted, BadLanes, BadWidth, BadBlock, NoRoom, CutShort, TooWide}
-use Rattle.blocks.specs.Refusals.{accepted, refuse}
-
--- "L is the number of lanes: 1, 4 or 8."
-unfoldable pub isLanes : ℕ → Bool
-isLanes L = eqb L 1 || eqb L 4 || eqb L 8
-
--- the size where it is accepted, and else "Each returns its number, length 0"
-abbrev pub answer : Refusal → ℕ → Answer
-answer k size = record { refusal = k; length = cond (accepted k) size 0 }
-
--- ".. and leaves lent memory unchanged."
-abbrev pub written : Refusal → List ℕ → List ℕ → List ℕ
-written k new before = cond (accepted k) (over new before) before
 
 -- "Payload size: 1, 2."
 abbrev pub sizeRefusal : ℕ → ℕ → Refusal

@@ -1,45 +1,27 @@
 // The four block calls of document 01. Each takes any input, tests it in the order of "Numbers of refusal", and writes nothing where it refuses.
+use answers::Answer;
+use answers::Refusal;
+use lanes::is_lanes;
 use least_width::least_width;
 use modes::Mode;
 use pack::pack;
-use refusal::Refusal;
 use unpack::unpack;
 ghost use mathlib.Core.Path.{_≡_};
 ghost use Prim.Native.Nat.{_≤_};
 ghost use lib.ListN.{length};
 ghost use Rattle.layout.specs.Layout.{payloadSize};
-ghost use Rattle.blocks.specs.Calls.{isLanes, sizeRefusal, sizeAnswer, packRefusal, packAnswer, packOutput, unpackRefusal, unpackAnswer, unpackOutput, widthRefusal, widthAnswer};
+ghost use Rattle.blocks.specs.Calls.{sizeRefusal, sizeAnswer, packRefusal, packAnswer, packOutput, unpackRefusal, unpackAnswer, unpackOutput, widthRefusal, widthAnswer};
 
 mod least_width;
 mod pack;
-pub mod refusal;
 mod rows;
 mod unpack;
 mod words;
-
-// The refusal and a length, 0 where it is refused: of a payload or a body in bytes, of a list that is read its count of values.
-pub struct Answer {
-    pub refusal: Refusal,
-    pub length: usize,
-}
 
 // The refusal and the width: 0 where it is refused.
 pub struct Width {
     pub refusal: Refusal,
     pub width: u32,
-}
-
-// Whether a block may have so many lanes: 1, 4 or 8.
-pub fn is_lanes(lanes: usize) -> bool
-    ensures { λ r. ⌜ r ≡ isLanes lanes ⌝ }
-{
-    if lanes == 1 {
-        return true;
-    }
-    if lanes == 4 {
-        return true;
-    }
-    lanes == 8
 }
 
 // How many bytes the words of a payload take.
@@ -68,12 +50,9 @@ pub fn compressed_block_size(lanes: usize, width: u32) -> Answer
 {
     let refusal = size_refusal(lanes, width);
     if !refusal.is_accepted() {
-        return Answer { refusal, length: 0 };
+        return Answer::refused(refusal);
     }
-    Answer {
-        refusal,
-        length: compute_num_bytes_per_block(lanes, width),
-    }
+    Answer::accepted(compute_num_bytes_per_block(lanes, width))
 }
 
 fn pack_refusal(lanes: usize, mode: Mode, values: &[u32], room: usize, width: u32) -> Refusal
@@ -110,13 +89,10 @@ pub fn compress(
 {
     let refusal = pack_refusal(lanes, mode, decompressed, compressed.len(), width);
     if !refusal.is_accepted() {
-        return Answer { refusal, length: 0 };
+        return Answer::refused(refusal);
     }
     pack(lanes, mode, &decompressed[..], &mut compressed[..], width);
-    Answer {
-        refusal,
-        length: compute_num_bytes_per_block(lanes, width),
-    }
+    Answer::accepted(compute_num_bytes_per_block(lanes, width))
 }
 
 fn unpack_refusal(lanes: usize, size: usize, room: usize, width: u32) -> Refusal
@@ -150,13 +126,10 @@ pub fn decompress(
 {
     let refusal = unpack_refusal(lanes, compressed.len(), decompressed.len(), width);
     if !refusal.is_accepted() {
-        return Answer { refusal, length: 0 };
+        return Answer::refused(refusal);
     }
     unpack(lanes, mode, &compressed[..], &mut decompressed[..], width);
-    Answer {
-        refusal,
-        length: compute_num_bytes_per_block(lanes, width),
-    }
+    Answer::accepted(compute_num_bytes_per_block(lanes, width))
 }
 
 fn width_refusal(lanes: usize, count: usize) -> Refusal

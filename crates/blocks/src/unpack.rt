@@ -10,11 +10,13 @@ use modes::Mode;
 use modes::initial_value;
 use modes::process;
 ghost use mathlib.Core.Path.{_≡_};
-ghost use Prim.Native.Nat.{ℕ, _+_, _*_, _-_, _^_, _≤_, _<_};
+ghost use Prim.Native.Nat.{_+_, _*_, _-_, _^_, _≤_, _<_};
 ghost use lib.ListN.{length};
-ghost use Rattle.layout.specs.Layout.{at, blockSize, payloadSize, payloadEntry, over};
+ghost use Rattle.layout.specs.Layout.{blockSize, payloadSize, byteBits, payloadEntry};
+ghost use Rattle.answers.specs.Answers.{over};
 ghost use Rattle.blocks.specs.Calls.{unpacked};
-ghost use Rattle.blocks.specs.kernel.Registers.{Held};
+ghost use Rattle.blocks.specs.kernel.Places.{RowOf};
+ghost use Rattle.blocks.specs.kernel.Registers.{Holds, bitsLeft};
 
 // width bits, all 1.
 fn mask(width: u32) -> u32
@@ -33,9 +35,9 @@ pub(crate) struct Unpacked {
 // Row `row` of a payload, from the bits that are left; the next words are read only where these do not reach.
 fn unpack_row(lanes: usize, bytes: &[u8], width: u32, row: u32, held: [u32; 8]) -> Unpacked
     requires { ⌜ (lanes ≤ 8) × (width ≤ 32) × (row < 32) × (payloadSize lanes width ≤ length (now bytes)) ⌝ }
-    requires { ⌜ Held lanes width (now bytes) row held ⌝ }
-    ensures { λ r. ⌜ ((l : ℕ) → l < lanes → at (r .entries) l ≡ payloadEntry lanes width (now (bytes .entry)) (row * lanes + l)) ⌝ }
-    ensures { λ r. ⌜ Held lanes width (now (bytes .entry)) (row + 1) (r .rest) ⌝ }
+    requires { ⌜ Holds lanes (byteBits lanes (now bytes)) (row * width) (bitsLeft width row) held ⌝ }
+    ensures { λ r. ⌜ RowOf lanes (payloadEntry lanes width (now (bytes .entry))) row (r .entries) ⌝ }
+    ensures { λ r. ⌜ Holds lanes (byteBits lanes (now (bytes .entry))) ((row + 1) * width) (bitsLeft width (row + 1)) (r .rest) ⌝ }
 {
     let ones = set1(mask(width));
     let start = row * width;

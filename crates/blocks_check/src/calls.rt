@@ -8,7 +8,7 @@ use crate::inputs::one_entry;
 use crate::line;
 use crate::parts::first_bytes;
 use crate::parts::first_values;
-use blocks::Answer;
+use answers::Answer;
 use blocks::compress;
 use blocks::compressed_block_size;
 use blocks::decompress;

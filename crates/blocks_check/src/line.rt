@@ -1,6 +1,6 @@
 // The words of a line on standard output: a label, and then `name=value` words.
 use crate::parts::byte_at;
-use blocks::Answer;
+use answers::Answer;
 use blocks::Width;
 use libc::STDOUT_FILENO;
 use modes::Initial;

@@ -13,7 +13,7 @@ use crate::inputs::sequence;
 use crate::line;
 use crate::parts::first_bytes;
 use crate::parts::first_values;
-use blocks::Answer;
+use answers::Answer;
 use blocks::compressed_block_size;
 use blocks::num_bits;
 use modes::Mode;

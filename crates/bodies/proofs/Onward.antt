@@ -8,7 +8,7 @@ use native.Mathlib.Omega.{arith}
 use native.Mathlib.Decide.{decLt}
 use lib.ListN.{length, take, drop, length-drop, length-take, take-append-drop}
 use Rattle.layout.specs.Layout.{blockSize}
-use Rattle.blocks.specs.Refusals.{orElse}
+use Rattle.answers.specs.Refusals.{orElse}
 use Rattle.modes.specs.declared.Mode.{Mode}
 use Rattle.order.specs.Order.{afterAll, entriesOf, valuesOf}
 use Rattle.order.proofs.Steps.{length-entries, entries-append, values-append}

@@ -6,12 +6,11 @@ use Prim.Native.Nat.{ℕ, zero, suc, _+_, _*_, _-_, _≤_, _<_, min}
 use native.Mathlib.Nat.{mul-le-mul, zero-mul, sub-add-min-cancel, min-comm}
 use native.Mathlib.Omega.{arith}
 use lib.ListN.{length, take, drop, length-append}
-use Rattle.layout.specs.Layout.{blockSize}
+use Rattle.layout.specs.Layout.{blockSize, isLanes}
 use Rattle.layout.proofs.Tables.{length-packed, length-table}
 use Rattle.layout.proofs.Widths.{width-most}
 use Rattle.modes.specs.declared.Mode.{Mode}
-use Rattle.blocks.specs.Calls.{isLanes}
-use Rattle.blocks.proofs.Tests.{for-lanes}
+use Rattle.layout.proofs.LaneCounts.{for-lanes}
 use Rattle.order.specs.Order.{most, entriesOf}
 use Rattle.order.proofs.Steps.{length-values}
 use Rattle.bodies.specs.Body.{filled, widthOf, block, blockCount, blocksOf, bodyOf}

@@ -8,26 +8,12 @@ use lib.ListN.{length}
 use Rattle.layout.specs.Layout.{blockSize}
 use Rattle.layout.specs.Width.{fits, leastWidth}
 use Rattle.modes.specs.declared.Mode.{Mode}
-use Rattle.blocks.specs.declared.refusal.Refusal.{Refusal}
-use Rattle.blocks.specs.declared.refusal.Refusal.the-variants.{Accepted, BadWidth, CutShort, OutOfOrder, NotLeast, BadFill}
-use Rattle.blocks.specs.Refusals.{accepted, orElse}
-use Rattle.blocks.proofs.Tests.{apart, passed}
+use Rattle.answers.specs.declared.Refusal.{Refusal}
+use Rattle.answers.specs.declared.Refusal.the-variants.{Accepted, BadWidth, CutShort, OutOfOrder, NotLeast, BadFill}
+use Rattle.answers.specs.Refusals.{accepted, orElse}
+use Rattle.answers.proofs.Refusals.{passed, both}
 use Rattle.order.specs.Order.{ordered}
 use Rattle.bodies.specs.Reading.{widthAt, sizeAt, entryAt, valuesAt, frameRefusal, entriesRefusal, shapeRefusal, blockRefusal}
-
--- one refusal and then another: both accept
-pub both : (k next : Refusal) → accepted (orElse k next) ≡ true → (accepted k ≡ true) × (accepted next ≡ true)
-both k next h = go (accepted k) refl
-  where
-    go : (b : Bool) → accepted k ≡ b → (accepted k ≡ true) × (accepted next ≡ true)
-    go true e = (e, rw e at h)
-    go false e = absurd (apart (sym (rw e at h) ∙ e))
-
-pub first-stops : (k next : Refusal) → accepted k ≡ false → orElse k next ≡ k
-first-stops k next h = rw h
-
-pub first-passes : (k next : Refusal) → accepted k ≡ true → orElse k next ≡ next
-first-passes k next h = rw h
 
 -- a block stands there
 pub record Framed (L : ℕ) (bs : List ℕ) : Type 0 where

@@ -17,14 +17,14 @@ use Rattle.layout.proofs.Below.{below-none, below-append, below-take, below-dro
 use Rattle.layout.proofs.Tables.{length-table}
 use Rattle.layout.proofs.Widths.{and-both}
 use Rattle.modes.specs.declared.Mode.{Mode}
-use Rattle.blocks.specs.declared.refusal.Refusal.the-variants.{Accepted, LeftOver}
-use Rattle.blocks.specs.Refusals.{accepted}
-use Rattle.blocks.proofs.Tests.{passed}
+use Rattle.answers.specs.declared.Refusal.the-variants.{Accepted, LeftOver}
+use Rattle.answers.specs.Refusals.{accepted}
+use Rattle.answers.proofs.Refusals.{passed, both}
 use Rattle.order.specs.Order.{afterAll, ordered, valuesOf}
 use Rattle.order.proofs.Steps.{Starts, values-small, all-starts, values-append, ordered-append}
 use Rattle.bodies.specs.Body.{block, blockCount, blocksOf}
 use Rattle.bodies.specs.Reading.{sizeAt, entryAt, entriesAt, valuesAt, blockRefusal, refusalFrom, entriesFrom}
-use Rattle.bodies.proofs.Tests.{both, Passed, block-passed, block-passes}
+use Rattle.bodies.proofs.Tests.{Passed, block-passed, block-passes}
 use Rattle.bodies.proofs.Block.{entries-small, block-written, entries-back, rest-back, written-passes}
 
 pub empty : (xs : List ℕ) → length xs ≤ 0 → xs ≡ []

@@ -8,9 +8,9 @@ use lib.ListN.{length, drop}
 use Rattle.layout.specs.Layout.{at, blockSize, payloadSize, table, payloadEntry}
 use Rattle.layout.specs.Width.{fits, leastWidth}
 use Rattle.modes.specs.declared.Mode.{Mode}
-use Rattle.blocks.specs.declared.refusal.Refusal.{Refusal}
-use Rattle.blocks.specs.declared.refusal.Refusal.the-variants.{Accepted, BadWidth, CutShort, OutOfOrder, NotLeast, BadFill, LeftOver}
-use Rattle.blocks.specs.Refusals.{refuse, orElse}
+use Rattle.answers.specs.declared.Refusal.{Refusal}
+use Rattle.answers.specs.declared.Refusal.the-variants.{Accepted, BadWidth, CutShort, OutOfOrder, NotLeast, BadFill, LeftOver}
+use Rattle.answers.specs.Refusals.{refuse, orElse}
 use Rattle.order.specs.Order.{afterAll, ordered, valuesOf}
 use Rattle.bodies.specs.Body.{blockCount}
 

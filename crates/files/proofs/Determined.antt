@@ -1,7 +1,7 @@
 -- For each public function of the crate: it asks nothing of its caller; two answers that its contract allows for one input are equal, and so
 -- is what it leaves in the memory that it was lent to write.
 use mathlib.Core.Path.{sym, _∙_}
-use Rattle.layout.proofs.Determined.{AsksNothing, AnswerDetermined, SeenDetermined, Determined}
+use Rattle.answers.proofs.Contracts.{AsksNothing, AnswerDetermined, SeenDetermined, Determined}
 use Rattle.files.proofs.header.Reads as header
 use Rattle.files.proofs.header.Kinds as header-kinds
 use Rattle.files.proofs.open.Reads as open-call

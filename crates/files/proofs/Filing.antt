@@ -7,15 +7,15 @@ use native.Mathlib.Omega.{arith}
 use borrow.Author.Tests.{lt-ltb, le-ltb}
 use lib.ListN.{length, take, replicate, length-append}
 use borrow.Rule.Slice.PartMut.{midOf, putMid}
-use Rattle.layout.specs.Layout.{over}
-use Rattle.layout.proofs.Parts.{part-length}
-use Rattle.layout.proofs.Fronts.{Front, front-length, front-part, take-over}
+use Rattle.answers.specs.Answers.{answer, over}
+use Rattle.answers.proofs.Parts.{part-length}
+use Rattle.answers.proofs.Fronts.{Front, front-length, front-part, take-over}
+use Rattle.answers.specs.declared.Answer.{Answer}
+use Rattle.answers.specs.declared.Refusal.the-variants.{Accepted, NoRoom}
+use Rattle.answers.specs.Refusals.{accepted}
+use Rattle.answers.proofs.Refusals.{first-stops}
+use Rattle.answers.proofs.Answers.{refused, untouched, answered, overwritten}
 use Rattle.modes.specs.declared.Mode.{Mode}
-use Rattle.blocks.specs.declared.Answer.{Answer}
-use Rattle.blocks.specs.declared.refusal.Refusal.the-variants.{Accepted, NoRoom}
-use Rattle.blocks.specs.Refusals.{accepted}
-use Rattle.blocks.proofs.Tests.{accepted-is}
-use Rattle.blocks.proofs.Answers.{overwritten}
 use Rattle.bodies.specs.Body.{bodyOf}
 use Rattle.bodies.proofs.Sizes.{body-short}
 use Rattle.lists.specs.Calls.{measureRefusal, measureAnswer, writeRefusal, writeOutput}
@@ -24,7 +24,7 @@ use Rattle.text.specs.Text.{decimal, fitted, line}
 use Rattle.text.proofs.Decimals.{fitted-all}
 use Rattle.files.specs.declared.heading.Header.{Header}
 use Rattle.files.specs.Header.{settings, fileOf, headerText}
-use Rattle.files.specs.Calls.{headerFor, fileFor, writeAnswerOf, writeOutputOf}
+use Rattle.files.specs.Calls.{headerFor, fileFor, writeRefusalOf, writeAnswerOf, writeOutputOf}
 use Rattle.files.proofs.Lines.{header-are, header-short}
 
 -- a file is its header's text, and the body
@@ -34,12 +34,12 @@ file-splits h body =
     ap (λ (x : List ℕ). x ++ body) (sym (header-are h [])) ∙ append-assoc t (10 ∷ []) body ∙ header-are h body
 
 -- what is refused whatever the room
-pub not-measured : (L : ℕ) (m : Mode) (vs before : List ℕ) {r : Answer} → r ≡ measureAnswer L m vs → accepted (r .refusal) ≡ false
-    → (_≡_ {A = Answer} (record { refusal = r .refusal; length = 0 }) (writeAnswerOf L m vs (length before))) × (before ≡ writeOutputOf L m vs before)
-not-measured L m vs before {r} e h =
+pub not-measured : (L : ℕ) (m : Mode) (vs before : List ℕ) {r q : Answer} → r ≡ measureAnswer L m vs → accepted (r .refusal) ≡ false → q ≡ answer (r .refusal) 0
+    → (q ≡ writeAnswerOf L m vs (length before)) × (before ≡ writeOutputOf L m vs before)
+not-measured L m vs before {r} e h q =
     let k : r .refusal ≡ measureRefusal L m vs = ap (λ (a : Answer). a .refusal) e in
-    let f : accepted (measureRefusal L m vs) ≡ false = ap accepted (sym k) ∙ h in
-    rw (f, k, f) (refl, refl)
+    let j : r .refusal ≡ writeRefusalOf L m vs (length before) = k ∙ sym (first-stops (measureRefusal L m vs) _ (ap accepted (sym k) ∙ h)) in
+    (refused j h q (length (fileFor L m vs)), untouched j h (fileFor L m vs) before)
 
 -- what is not
 module _ (L : ℕ) (m : Mode) (vs before : List ℕ) (r : Answer) (told : r ≡ measureAnswer L m vs) (ok : accepted (r .refusal) ≡ true) where
@@ -71,8 +71,10 @@ module _ (L : ℕ) (m : Mode) (vs before : List ℕ) (r : Answer) (told : r ≡ 
     total =
         rw (len, body-length) (sym (length-append (headerText (headerFor L m vs)) (bodyOf L m vs)) ∙ ap length (file-splits (headerFor L m vs) (bodyOf L m vs)))
 
-    pub no-room : length before < n + r .length → (_≡_ {A = Answer} (record { refusal = NoRoom; length = 0 }) (writeAnswerOf L m vs (length before))) × (before ≡ writeOutputOf L m vs before)
-    no-room h = rw (good, lt-ltb (length before) (length (fileFor L m vs)) (rw total at h)) (refl, refl)
+    pub no-room : length before < n + r .length → {q : Answer} → q ≡ answer NoRoom 0 → (q ≡ writeAnswerOf L m vs (length before)) × (before ≡ writeOutputOf L m vs before)
+    no-room h q =
+        let j : NoRoom ≡ writeRefusalOf L m vs (length before) = rw (good, lt-ltb (length before) (length (fileFor L m vs)) (rw total at h)) in
+        (refused j refl q (length (fileFor L m vs)), untouched j refl (fileFor L m vs) before)
 
     module _ (room : n + r .length ≤ length before) (text out₁ : List ℕ) (spelt : text ≡ over (headerText (record { lanes = L; mode = m; count = length vs; bytes = r .length })) (replicate 96 0))
         (put : out₁ ≡ over (fitted (take n text) before) before) where
@@ -105,10 +107,10 @@ module _ (L : ℕ) (m : Mode) (vs before : List ℕ) (r : Answer) (told : r ≡ 
         pub file-kept : length (putMid n (length out₁ - n) out₁ ys) ≡ length before
         file-kept = front-length whole (n + r .length) (length-append (headerText head) (bodyOf L m vs) ∙ rw (← body-length, len))
 
-        pub file-done : (_≡_ {A = Answer} (record { refusal = r .refusal; length = n + r .length }) (writeAnswerOf L m vs (length before))) × (putMid n (length out₁ - n) out₁ ys ≡ writeOutputOf L m vs before)
+        pub file-done : {q : Answer} → q ≡ answer Accepted (n + r .length) → (q ≡ writeAnswerOf L m vs (length before)) × (putMid n (length out₁ - n) out₁ ys ≡ writeOutputOf L m vs before)
         unfolding fileFor
-        file-done =
+        file-done q =
             let e : headerText head ++ bodyOf L m vs ≡ fileFor L m vs = ap (λ (t : List ℕ). t ++ bodyOf L m vs) head-is ∙ file-splits (headerFor L m vs) (bodyOf L m vs) in
             let fit : length (fileFor L m vs) ≤ length before = omega (arith, total, room) in
-            let k : r .refusal ≡ Accepted = accepted-is (r .refusal) ok in
-            rw (good, le-ltb (length before) (length (fileFor L m vs)) fit, k) (ap (λ (t : ℕ). record { refusal = Accepted; length = t }) total, whole .here ∙ ap (λ (t : List ℕ). over t before) e)
+            let j : Accepted ≡ writeRefusalOf L m vs (length before) = rw (good, le-ltb (length before) (length (fileFor L m vs)) fit) in
+            (answered j refl q total, overwritten j refl (fileFor L m vs) before (whole .here ∙ ap (λ (t : List ℕ). over t before) e))

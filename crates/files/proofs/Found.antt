@@ -9,13 +9,12 @@ use borrow.Author.Tests.{ne-eqb}
 use lib.Dec.{eqb}
 use lib.ListN.{length, drop}
 use lib.Seq.{drop-drop, drop-at, getD-drop}
-use Rattle.layout.specs.Layout.{at}
+use Rattle.layout.specs.Layout.{at, isLanes}
 use Rattle.modes.specs.Entries.{firstOf}
 use Rattle.modes.specs.declared.Initial.the-variants.{None, Number}
 use Rattle.modes.specs.declared.Mode.{Mode}
 use Rattle.modes.specs.declared.Mode.the-variants.{Plain, Sorted, Strict}
-use Rattle.blocks.specs.Calls.{isLanes}
-use Rattle.blocks.proofs.Tests.{lanes-of}
+use Rattle.layout.proofs.LaneCounts.{lanes-of}
 use Rattle.order.specs.Order.{starting}
 use Rattle.text.specs.declared.Numeral.{Numeral}
 use Rattle.text.specs.Text.{word, decimal, line, numberAt, fieldAt}

@@ -5,8 +5,8 @@ use Prim.Native.Nat.{ℕ, _+_, _-_, _≤_}
 use native.Mathlib.Omega.{arith}
 use lib.ListN.{length, length-append}
 use borrow.Rule.Slice.PartMut.{midOf, putMid}
-use Rattle.layout.specs.Layout.{over}
-use Rattle.layout.proofs.Fronts.{Front, front-length, front-part}
+use Rattle.answers.specs.Answers.{over}
+use Rattle.answers.proofs.Fronts.{Front, front-length, front-part}
 use Rattle.modes.specs.declared.Initial.{Initial}
 use Rattle.modes.specs.declared.Initial.the-variants.{None, Number}
 use Rattle.modes.specs.declared.Mode.{Mode}

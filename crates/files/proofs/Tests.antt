@@ -7,9 +7,11 @@ use borrow.Author.Tests.{eqb-true, eq-eqb}
 use lib.Dec.{eqb}
 use lib.ListN.{length, length-drop}
 use Rattle.layout.proofs.Widths.{and-both}
-use Rattle.blocks.specs.declared.Answer.{Answer}
-use Rattle.blocks.specs.declared.refusal.Refusal.the-variants.{Accepted, BadHeader}
-use Rattle.blocks.specs.Calls.{isLanes}
+use Rattle.answers.specs.declared.Answer.{Answer}
+use Rattle.answers.specs.Answers.{answer}
+use Rattle.answers.proofs.Answers.{refused, untouched}
+use Rattle.answers.specs.declared.Refusal.the-variants.{Accepted, BadHeader}
+use Rattle.layout.specs.Layout.{isLanes}
 use Rattle.lists.specs.Calls.{readAnswer, readOutput}
 use Rattle.text.specs.Text.{begins}
 use Rattle.files.specs.declared.heading.Header.{Header}
@@ -17,7 +19,7 @@ use Rattle.files.specs.declared.Packing.{Packing}
 use Rattle.files.specs.Header.{settings, headerText}
 use Rattle.files.specs.kernel.Fields.{headerIn}
 use Rattle.files.specs.Opening.{bodyIn, isHeaded, isFile, openAnswer, isSettings, noSettings, settingsAnswer}
-use Rattle.files.specs.Calls.{readAnswerOf, readOutputOf}
+use Rattle.files.specs.Calls.{listIn, readRefusalOf, readAnswerOf, readOutputOf}
 
 -- one test after another, for the header h that the fields give
 module _ (file : List ℕ) (h : Header) (is : h ≡ headerIn file) where
@@ -66,8 +68,10 @@ unfolding isFile isHeaded
 is-file file f = rw (f .lanes, f .text, eq-eqb (headerIn file .bytes) (length (bodyIn file)) (f .bytes))
 
 -- reading a file: the two ways out
-pub bad-file : (file before : List ℕ) → isFile file ≡ false → (_≡_ {A = Answer} (record { refusal = BadHeader; length = 0 }) (readAnswerOf file (length before))) × (before ≡ readOutputOf file before)
-bad-file file before h = rw h (refl, refl)
+pub bad-file : (file before : List ℕ) → isFile file ≡ false → {q : Answer} → q ≡ answer BadHeader 0 → (q ≡ readAnswerOf file (length before)) × (before ≡ readOutputOf file before)
+bad-file file before h q =
+    let j : BadHeader ≡ readRefusalOf file (length before) = rw h in
+    (refused j refl q (headerIn file .count), untouched j refl (listIn file) before)
 
 pub good-file : (file before : List ℕ) → isFile file ≡ true → {h : Header} → h ≡ headerIn file → {body : List ℕ} → body ≡ openAnswer file → {r : Answer} {after : List ℕ}
     → r ≡ readAnswer (h .lanes) (h .mode) (h .count) body (length before) → after ≡ readOutput (h .lanes) (h .mode) (h .count) body before

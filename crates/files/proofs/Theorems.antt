@@ -9,21 +9,20 @@ use native.Mathlib.Omega.{arith}
 use borrow.Author.Tests.{le-ltb}
 use lib.ListN.{length, drop}
 use lib.Seq.{drop-at}
-use Rattle.layout.specs.Layout.{Below, over}
+use Rattle.layout.specs.Layout.{Below, isLanes}
+use Rattle.answers.specs.Answers.{over}
+use Rattle.answers.specs.declared.Refusal.the-variants.{Accepted}
+use Rattle.answers.specs.Refusals.{accepted}
+use Rattle.answers.proofs.Refusals.{apart, accepted-is, both}
 use Rattle.layout.proofs.Below.{below-drop}
 use Rattle.layout.proofs.Widths.{and-both}
 use Rattle.modes.specs.Entries.{firstOf}
 use Rattle.modes.specs.declared.Initial.the-variants.{None, Number}
 use Rattle.modes.specs.declared.Mode.{Mode}
 use Rattle.modes.specs.declared.Mode.the-variants.{Plain, Sorted, Strict}
-use Rattle.blocks.specs.declared.refusal.Refusal.the-variants.{Accepted}
-use Rattle.blocks.specs.Refusals.{accepted}
-use Rattle.blocks.specs.Calls.{isLanes}
-use Rattle.blocks.proofs.Tests.{apart, accepted-is}
 use Rattle.order.specs.Order.{IsList, starting}
 use Rattle.order.proofs.Beginnings.{starting-first, starting-entries, initial-twice, starting-twice}
 use Rattle.bodies.specs.Body.{bodyOf}
-use Rattle.bodies.proofs.Tests.{both}
 use Rattle.bodies.proofs.Sizes.{body-short}
 use Rattle.lists.specs.Calls.{measureRefusal, readRefusal}
 use Rattle.lists.proofs.Accepts.{measure-exactly}

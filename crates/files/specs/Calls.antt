@@ -4,11 +4,11 @@ use Prim.Native.Nat.{ℕ}
 use lib.Dec.{ltb}
 use lib.ListN.{length}
 use Rattle.modes.specs.declared.Mode.{Mode}
-use Rattle.blocks.specs.declared.Answer.{Answer}
-use Rattle.blocks.specs.declared.refusal.Refusal.{Refusal}
-use Rattle.blocks.specs.declared.refusal.Refusal.the-variants.{Accepted, NoRoom}
-use Rattle.blocks.specs.Refusals.{refuse, orElse}
-use Rattle.blocks.specs.Calls.{answer, written}
+use Rattle.answers.specs.declared.Answer.{Answer}
+use Rattle.answers.specs.declared.Refusal.{Refusal}
+use Rattle.answers.specs.declared.Refusal.the-variants.{Accepted, NoRoom}
+use Rattle.answers.specs.Refusals.{refuse, orElse}
+use Rattle.answers.specs.Answers.{answer, written}
 use Rattle.bodies.specs.Body.{bodyOf}
 use Rattle.bodies.specs.Reading.{listOf}
 use Rattle.lists.specs.Calls.{measureRefusal, readRefusal}

@@ -9,7 +9,7 @@ use Rattle.modes.specs.declared.Initial.the-variants.{None, Number}
 use Rattle.modes.specs.declared.Mode.{Mode}
 use Rattle.modes.specs.declared.Mode.the-variants.{Plain, Sorted, Strict}
 use Rattle.modes.specs.Entries.{firstOf}
-use Rattle.blocks.specs.Calls.{isLanes}
+use Rattle.layout.specs.Layout.{isLanes}
 use Rattle.order.specs.Order.{startingInitial, starting}
 use Rattle.text.specs.Text.{word, decimal, line}
 use Rattle.files.specs.declared.heading.Header.{Header}

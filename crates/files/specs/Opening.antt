@@ -7,10 +7,10 @@ use Prim.Native.Nat.{ℕ}
 use lib.Dec.{eqb}
 use lib.ListN.{length, drop}
 use Rattle.modes.specs.declared.Mode.the-variants.{Plain}
-use Rattle.blocks.specs.declared.refusal.Refusal.{Refusal}
-use Rattle.blocks.specs.declared.refusal.Refusal.the-variants.{Accepted, BadHeader}
-use Rattle.blocks.specs.Refusals.{refuse}
-use Rattle.blocks.specs.Calls.{isLanes}
+use Rattle.answers.specs.declared.Refusal.{Refusal}
+use Rattle.answers.specs.declared.Refusal.the-variants.{Accepted, BadHeader}
+use Rattle.answers.specs.Refusals.{refuse}
+use Rattle.layout.specs.Layout.{isLanes}
 use Rattle.text.specs.Text.{begins}
 use Rattle.files.specs.declared.heading.Header.{Header}
 use Rattle.files.specs.declared.Opened.{Opened}

@@ -8,7 +8,7 @@ ghost use mathlib.Core.Path.{_≡_};
 ghost use mathlib.Core.List.{[], _∷_, _++_};
 ghost use Prim.Native.Nat.{_+_, _≤_};
 ghost use lib.ListN.{length};
-ghost use Rattle.layout.specs.Layout.{over};
+ghost use Rattle.answers.specs.Answers.{over};
 ghost use Rattle.text.specs.Text.{decimal, line};
 ghost use Rattle.files.specs.Header.{modeWord, firstField, firstText, settings, headerText};
 

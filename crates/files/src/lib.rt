@@ -1,12 +1,12 @@
 // The list file calls of document 01, and one for the lines that a file and a text have in common. Each takes any input; none limits the
 // size of a file.
-use blocks::Answer;
-use blocks::is_lanes;
-use blocks::refusal::Refusal;
+use answers::Answer;
+use answers::Refusal;
 use fields::header_in;
 use heading::Header;
 use heading::put_header;
 use heading::put_settings;
+use lanes::is_lanes;
 use lists::measure;
 use modes::Mode;
 use text::begins;
@@ -90,10 +90,7 @@ pub fn read(file: &[u8], values: &mut [u32]) -> Answer
     ensures { λ r. ⌜ now (values .exit) ≡ readOutputOf (now (file .entry)) (now (values .entry)) ⌝ }
 {
     if !is_file(file) {
-        return Answer {
-            refusal: Refusal::BadHeader,
-            length: 0,
-        };
+        return Answer::refused(Refusal::BadHeader);
     }
     let header = header_in(file);
     let lanes = header.lanes;
@@ -111,7 +108,7 @@ pub fn write(lanes: usize, mode: Mode, values: &[u32], file: &mut [u8]) -> Answe
     let measured = measure(lanes, mode, values);
     let refusal = measured.refusal;
     if !refusal.is_accepted() {
-        return Answer { refusal, length: 0 };
+        return Answer::refused(refusal);
     }
     let bytes = measured.length;
     let mut text = [0u8; 96];
@@ -123,17 +120,11 @@ pub fn write(lanes: usize, mode: Mode, values: &[u32], file: &mut [u8]) -> Answe
     };
     let length = put_header(header, &mut text);
     if file.len() < length + bytes {
-        return Answer {
-            refusal: Refusal::NoRoom,
-            length: 0,
-        };
+        return Answer::refused(Refusal::NoRoom);
     }
     put(&text[..length], &mut file[..]);
     lists::write(lanes, mode, values, &mut file[length..]);
-    Answer {
-        refusal,
-        length: length + bytes,
-    }
+    Answer::accepted(length + bytes)
 }
 
 // How a list is to be packed, as the lanes, mode and first lines of a text say it, and how long these lines are.

@@ -2,7 +2,7 @@
 use crate::buffers::first_values;
 use crate::buffers::marked_bytes;
 use crate::buffers::marked_values;
-use blocks::Answer;
+use answers::Answer;
 use files::heading::Header;
 use libc::STDOUT_FILENO;
 use modes::Initial;

@@ -1,8 +1,10 @@
 -- For each public function of the crate: it asks nothing of its caller; two answers that its contract allows for one input are equal, and so
 -- is what it leaves in the memory that it was lent to write.
 use mathlib.Core.Path.{sym, _∙_}
-use Rattle.layout.proofs.Determined.{AsksNothing, AnswerDetermined}
+use Rattle.answers.proofs.Contracts.{AsksNothing, AnswerDetermined}
 use Rattle.lanes.proofs.Rows.{row-once, RowDetermined}
+use Rattle.lanes.proofs.is_lanes.Reads as is-lanes
+use Rattle.lanes.proofs.is_lanes.Kinds as is-lanes-kinds
 use Rattle.lanes.proofs.most_significant_bit.Reads as most-significant-bit
 use Rattle.lanes.proofs.most_significant_bit.Kinds as most-significant-bit-kinds
 use Rattle.lanes.proofs.scalar.set1.Reads as set1
@@ -29,6 +31,12 @@ use Rattle.lanes.proofs.scalar.compute_delta.Reads as compute-delta
 use Rattle.lanes.proofs.scalar.compute_delta.Kinds as compute-delta-kinds
 use Rattle.lanes.proofs.scalar.integrate_delta.Reads as integrate-delta
 use Rattle.lanes.proofs.scalar.integrate_delta.Kinds as integrate-delta-kinds
+
+is-lanes-asks-nothing : AsksNothing is-lanes-kinds.ps is-lanes.Pre
+is-lanes-asks-nothing κs a = tt
+
+is-lanes-determined : AnswerDetermined is-lanes-kinds.ps is-lanes-kinds.r is-lanes.Post
+is-lanes-determined κs a z z′ e e′ p q = p ∙ sym q
 
 most-significant-bit-asks-nothing : AsksNothing most-significant-bit-kinds.ps most-significant-bit.Pre
 most-significant-bit-asks-nothing κs a = tt

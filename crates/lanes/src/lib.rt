@@ -1,8 +1,22 @@
-// Rows of numbers, one for each lane, and the width of one number.
+// How many lanes there may be, rows of numbers, one for each lane, and the width of one number.
 ghost use mathlib.Core.Path.{_≡_};
+ghost use Rattle.layout.specs.Layout.{isLanes};
 ghost use Rattle.layout.specs.Width.{significant};
 
 pub mod scalar;
+
+// Whether a block may have so many lanes: 1, 4 or 8.
+pub fn is_lanes(lanes: usize) -> bool
+    ensures { λ r. ⌜ r ≡ isLanes lanes ⌝ }
+{
+    if lanes == 1 {
+        return true;
+    }
+    if lanes == 4 {
+        return true;
+    }
+    lanes == 8
+}
 
 // The width of one number: 0 for 0.
 pub fn most_significant_bit(v: u32) -> u32

@@ -7,6 +7,4 @@ pub mod RoundTrip
 pub mod Joined
 pub mod Widths
 pub mod Below
-pub mod Parts
-pub mod Fronts
-pub mod Determined
+pub mod LaneCounts

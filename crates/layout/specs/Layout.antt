@@ -1,7 +1,9 @@
 -- "Words" and "Bit layout" of document 01. L is the number of lanes, n the width, r a row, l a lane, w a word of a lane.
+use mathlib.Core.Bool.{Bool, _||_}
 use Prim.Native.Nat.{ℕ, zero, suc, _+_, _*_, _/_, _%_, _^_, _<_}
 use mathlib.Core.List.{List, [], _∷_, _++_}
-use lib.ListN.{length, getD, drop}
+use lib.Dec.{eqb}
+use lib.ListN.{getD}
 
 -- the number at place k of the list x, and 0 past its end
 abbrev pub at : List ℕ → ℕ → ℕ
@@ -11,9 +13,9 @@ at x k = getD x k 0
 abbrev pub Below : ℕ → List ℕ → Type 0
 Below n x = (k : ℕ) → at x k < n
 
--- "Memory past those is unchanged": new at the front, and the rest as before
-abbrev pub over : List ℕ → List ℕ → List ℕ
-over new before = new ++ drop (length new) before
+-- "L is the number of lanes: 1, 4 or 8."
+unfoldable pub isLanes : ℕ → Bool
+isLanes L = eqb L 1 || eqb L 4 || eqb L 8
 
 -- "A block has B = 32L values."
 abbrev pub blockSize : ℕ → ℕ

@@ -7,14 +7,13 @@ use Prim.Native.Nat.{ℕ, _≤_}
 use borrow.Author.Tests.{ltb-false, le-ltb, not-false}
 use lib.ListN.{length}
 use Rattle.modes.specs.declared.Mode.{Mode}
-use Rattle.blocks.specs.declared.refusal.Refusal.the-variants.{Accepted, BadLanes, NoRoom, TooMany, OutOfOrder}
-use Rattle.blocks.specs.Refusals.{accepted}
-use Rattle.blocks.specs.Calls.{isLanes}
-use Rattle.blocks.proofs.Tests.{passed}
+use Rattle.answers.specs.declared.Refusal.the-variants.{Accepted, BadLanes, NoRoom, TooMany, OutOfOrder}
+use Rattle.answers.specs.Refusals.{accepted}
+use Rattle.layout.specs.Layout.{isLanes}
+use Rattle.answers.proofs.Refusals.{passed, both}
 use Rattle.order.specs.Order.{most, starting, ordered}
 use Rattle.bodies.specs.Body.{bodyOf}
 use Rattle.bodies.specs.Reading.{valuesRefusal, bodyRefusal}
-use Rattle.bodies.proofs.Tests.{both}
 use Rattle.lists.specs.Calls.{measureRefusal, writeRefusal, readRefusal}
 
 -- what measuring accepts

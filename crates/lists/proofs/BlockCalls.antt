@@ -7,22 +7,24 @@ use native.Mathlib.Nat.{mul-le-mul}
 use native.Mathlib.Omega.{arith}
 use lib.ListN.{length, take, drop, length-drop}
 use borrow.Rule.Slice.PartMut.{midOf}
-use Rattle.layout.specs.Layout.{at, blockSize, payloadSize, table, packed, over}
+use Rattle.layout.specs.Layout.{at, blockSize, payloadSize, table, packed, isLanes}
+use Rattle.answers.specs.Answers.{over}
+use Rattle.answers.specs.declared.Answer.{Answer}
+use Rattle.layout.proofs.LaneCounts.{lanes-of}
+use Rattle.answers.proofs.Answers.{overwritten}
+use Rattle.answers.proofs.Fronts.{length-over, take-over}
+use Rattle.answers.proofs.Parts.{part-is}
 use Rattle.layout.proofs.Tables.{length-table}
 use Rattle.layout.specs.Width.{fits, leastWidth}
 use Rattle.modes.specs.declared.Mode.{Mode}
 use Rattle.modes.specs.declared.Mode.the-variants.{Plain}
-use Rattle.blocks.specs.declared.Answer.{Answer}
 use Rattle.blocks.specs.declared.Width.{Width}
-use Rattle.blocks.specs.Calls.{isLanes, sizeAnswer, packRefusal, packOutput, unpacked, unpackRefusal, unpackOutput, widthAnswer}
-use Rattle.blocks.proofs.Tests.{lanes-of, size-exactly, pack-exactly, unpack-exactly, width-exactly}
-use Rattle.blocks.proofs.Answers.{overwritten}
+use Rattle.blocks.specs.Calls.{sizeAnswer, packRefusal, packOutput, unpacked, unpackRefusal, unpackOutput, widthAnswer}
+use Rattle.blocks.proofs.Tests.{size-exactly, pack-exactly, unpack-exactly, width-exactly}
 use Rattle.order.proofs.Steps.{plain-values}
 use Rattle.order.proofs.Blockwise.{values-are}
 use Rattle.bodies.specs.Reading.{widthAt, entryAt, valuesAt}
 use Rattle.bodies.proofs.Tests.{Framed}
-use Rattle.layout.proofs.Fronts.{length-over, take-over}
-use Rattle.layout.proofs.Parts.{part-is}
 
 module _ (L : ℕ) (lanes : isLanes L ≡ true) where
   -- a payload is at most 1,024 bytes

@@ -16,18 +16,19 @@ use Rattle.layout.proofs.Tables.{table-at, take-table}
 use Rattle.layout.proofs.RoundTrip.{entry-fits}
 use Rattle.layout.proofs.Widths.{fits-ext, width-ext}
 use Rattle.modes.specs.declared.Mode.{Mode}
-use Rattle.blocks.specs.declared.refusal.Refusal.{Refusal}
-use Rattle.blocks.specs.declared.refusal.Refusal.the-variants.{Accepted, OutOfOrder, LeftOver}
-use Rattle.blocks.specs.Refusals.{accepted, orElse}
+use Rattle.answers.specs.declared.Refusal.{Refusal}
+use Rattle.answers.specs.declared.Refusal.the-variants.{Accepted, OutOfOrder, LeftOver}
+use Rattle.answers.specs.Refusals.{accepted, orElse}
+use Rattle.answers.proofs.Refusals.{first-stops, first-passes}
+use Rattle.answers.proofs.Parts.{part-is, part-at, part-length}
 use Rattle.order.specs.declared.Course.{Course}
 use Rattle.order.specs.Order.{afterAll, ordered, valuesOf, course}
 use Rattle.bodies.specs.Reading.{widthAt, sizeAt, entryAt, entriesAt, valuesAt, frameRefusal, entriesRefusal, shapeRefusal, blockRefusal, refusalFrom, bodyRefusal}
-use Rattle.bodies.proofs.Tests.{first-stops, first-passes, Framed, framed, block-passed}
+use Rattle.bodies.proofs.Tests.{Framed, framed, block-passed}
 use Rattle.bodies.proofs.Onward.{blocks-none, refusal-next}
 use Rattle.lists.proofs.Standing.{byte-there, byte-narrow, end-within, rest-there}
 use Rattle.lists.specs.declared.check.Checked.{Checked}
 use Rattle.lists.specs.kernel.Steps.{checked}
-use Rattle.layout.proofs.Parts.{part-is, part-at, part-length}
 
 -- the filling, as the part behind the list's own entries
 pub fill-part : (L k : ℕ) (es : List ℕ) → length es ≡ blockSize L

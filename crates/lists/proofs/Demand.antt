@@ -4,14 +4,16 @@ use mathlib.Core.Bool.{true}
 use mathlib.Core.List.{List}
 use Prim.Native.Nat.{ℕ, _^_, _≤_, _<_}
 use lib.ListN.{length, take}
-use Rattle.layout.specs.Layout.{Below, over}
+use Rattle.layout.specs.Layout.{Below, isLanes}
+use Rattle.answers.specs.Answers.{over, answer, written}
+use Rattle.answers.specs.declared.Refusal.{Refusal}
+use Rattle.answers.specs.declared.Refusal.the-variants.{Accepted}
+use Rattle.answers.specs.Refusals.{accepted}
+use Rattle.layout.proofs.LaneCounts.{lanes-of}
+use Rattle.answers.proofs.Refusals.{accepted-is}
+use Rattle.answers.proofs.Fronts.{take-over}
 use Rattle.modes.specs.declared.Mode.{Mode}
 use Rattle.modes.specs.Entries.{firstOf}
-use Rattle.blocks.specs.declared.refusal.Refusal.{Refusal}
-use Rattle.blocks.specs.declared.refusal.Refusal.the-variants.{Accepted}
-use Rattle.blocks.specs.Refusals.{accepted}
-use Rattle.blocks.specs.Calls.{isLanes, answer, written}
-use Rattle.blocks.proofs.Tests.{lanes-of, accepted-is}
 use Rattle.order.specs.Order.{IsList, starting, entriesOf, valuesOf}
 use Rattle.order.proofs.Steps.{length-entries, length-values, entries-small, values-small, values-entries, entries-values}
 use Rattle.order.proofs.Beginnings.{starting-first, starting-values}
@@ -21,7 +23,6 @@ use Rattle.bodies.proofs.Whole.{Written, sound, Had, complete, blocks-enough}
 use Rattle.lists.specs.Calls.{writeRefusal, writeOutput, readRefusal, readOutput}
 use Rattle.lists.specs.Demand.{Holds, Reads, Writes, Demand3}
 use Rattle.lists.proofs.Accepts.{write-exactly, read-exactly}
-use Rattle.layout.proofs.Fronts.{take-over}
 
 -- what an accepted call answers and leaves
 accepted-answer : (k : Refusal) (size : ℕ) → accepted k ≡ true → answer k size ≡ record { refusal = Accepted; length = size }

@@ -8,23 +8,25 @@ use native.Mathlib.Omega.{arith}
 use lib.ListN.{length, take, drop, length-append, List·getD-append}
 use lib.Seq.{take-take}
 use borrow.Rule.Slice.PartMut.{midOf, putMid}
-use Rattle.layout.specs.Layout.{at, blockSize, payloadSize, over}
+use Rattle.layout.specs.Layout.{at, blockSize, payloadSize}
+use Rattle.answers.specs.Answers.{over}
+use Rattle.answers.specs.Refusals.{accepted}
+use Rattle.answers.proofs.Refusals.{both}
+use Rattle.answers.proofs.Fronts.{Front, front-none, front-length, front-part, take-over}
+use Rattle.answers.proofs.Parts.{part-is}
 use Rattle.layout.proofs.Tables.{length-table, take-table}
 use Rattle.modes.specs.Entries.{values}
 use Rattle.modes.specs.declared.Mode.{Mode}
-use Rattle.blocks.specs.Refusals.{accepted}
 use Rattle.order.specs.Order.{after, afterAll}
 use Rattle.order.proofs.Steps.{length-values}
 use Rattle.order.proofs.Going.{after-end}
 use Rattle.order.proofs.Blockwise.{values-are}
 use Rattle.bodies.specs.Body.{blockCount}
 use Rattle.bodies.specs.Reading.{widthAt, sizeAt, entryAt, entriesAt, valuesAt, frameRefusal, entriesRefusal, shapeRefusal, blockRefusal, refusalFrom, listOf}
-use Rattle.bodies.proofs.Tests.{both, Framed, framed}
+use Rattle.bodies.proofs.Tests.{Framed, framed}
 use Rattle.bodies.proofs.Onward.{blocks-next, list-none, list-next}
 use Rattle.lists.proofs.Standing.{byte-there, byte-narrow, end-within, rest-there}
 use Rattle.lists.specs.kernel.Steps.{framesFrom}
-use Rattle.layout.proofs.Fronts.{Front, front-none, front-length, front-part, take-over}
-use Rattle.layout.proofs.Parts.{part-is}
 
 -- one block
 

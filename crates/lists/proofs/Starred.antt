@@ -2,9 +2,9 @@
 use mathlib.Core.Path.{_≡_, refl}
 use mathlib.Core.List.{map}
 use lib.ListN.{length}
-use Rattle.layout.specs.Layout.{bit, number, table, entryBits, byteBits, payloadByte, packed, payloadEntry}
+use Rattle.layout.specs.Layout.{bit, number, table, entryBits, byteBits, payloadByte, packed, payloadEntry, isLanes}
 use Rattle.layout.specs.Width.{fits, leastFrom, leastWidth}
-use Rattle.blocks.specs.Calls.{isLanes, unpacked}
+use Rattle.blocks.specs.Calls.{unpacked}
 use Rattle.order.specs.Order.{afterAll, ordered, entriesOf, valuesOf}
 use Rattle.bodies.specs.Body.{block, blockCount, blocksOf, bodyOf}
 use Rattle.bodies.specs.Reading.{frameRefusal, entriesRefusal, shapeRefusal, blockRefusal, refusalFrom, entriesFrom, listOf}

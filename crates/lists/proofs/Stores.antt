@@ -10,23 +10,24 @@ use native.Mathlib.Decide.{decLt}
 use lib.ListN.{length, set, take, drop, replicate, length-append, length-drop, length-take, length-set, drop-of-length-le, List·getD-append, List·getD-eq-default}
 use lib.Seq.{take-all, getD-take, getD-drop, getD-append-add, drop-drop, length-take-le}
 use borrow.Rule.Slice.PartMut.{midOf, putMid}
-use Rattle.layout.specs.Layout.{at, Below, blockSize, payloadSize, packed, over}
+use Rattle.layout.specs.Layout.{at, Below, blockSize, payloadSize, packed, isLanes}
+use Rattle.answers.specs.Answers.{over}
+use Rattle.layout.proofs.LaneCounts.{lanes-of}
+use Rattle.answers.proofs.Fronts.{Front, front-none, front-length, front-put, front-part, length-over}
+use Rattle.answers.proofs.Parts.{part-length}
 use Rattle.layout.proofs.Tables.{length-packed}
 use Rattle.layout.proofs.RoundTrip.{packed-ext}
 use Rattle.layout.proofs.Widths.{Fit, fits-of, width-least, width-small, width-ext}
 use Rattle.modes.specs.declared.Mode.{Mode}
 use Rattle.modes.specs.declared.Mode.the-variants.{Plain}
 use Rattle.blocks.specs.declared.Width.{Width}
-use Rattle.blocks.specs.Calls.{isLanes, packOutput, widthAnswer}
-use Rattle.blocks.proofs.Tests.{lanes-of}
+use Rattle.blocks.specs.Calls.{packOutput, widthAnswer}
 use Rattle.order.specs.Order.{after, afterAll, nextEntry, entriesOf}
 use Rattle.order.proofs.Steps.{length-entries, entries-small}
 use Rattle.order.proofs.Going.{after-more, after-end, entries-more}
 use Rattle.bodies.specs.Body.{filled, widthOf, block, bodyOf}
 use Rattle.bodies.proofs.Onward.{body-none, body-next}
-use Rattle.layout.proofs.Fronts.{Front, front-none, front-length, front-put, front-part, length-over}
 use Rattle.lists.proofs.BlockCalls.{width-is, pack-is}
-use Rattle.layout.proofs.Parts.{part-length}
 
 -- the entries of the first i values stand at the front of `out`
 pub record Filling (m₀ : Mode) (vs zs : List ℕ) (m : Mode) (i : ℕ) (out : List ℕ) : Type 0 where

@@ -5,11 +5,12 @@ use Prim.Native.Nat.{ℕ}
 use lib.Dec.{ltb}
 use lib.ListN.{length}
 use Rattle.modes.specs.declared.Mode.{Mode}
-use Rattle.blocks.specs.declared.Answer.{Answer}
-use Rattle.blocks.specs.declared.refusal.Refusal.{Refusal}
-use Rattle.blocks.specs.declared.refusal.Refusal.the-variants.{Accepted, BadLanes, NoRoom, TooMany}
-use Rattle.blocks.specs.Refusals.{refuse, orElse}
-use Rattle.blocks.specs.Calls.{isLanes, answer, written}
+use Rattle.answers.specs.declared.Answer.{Answer}
+use Rattle.answers.specs.declared.Refusal.{Refusal}
+use Rattle.answers.specs.declared.Refusal.the-variants.{Accepted, BadLanes, NoRoom, TooMany}
+use Rattle.answers.specs.Refusals.{refuse, orElse}
+use Rattle.layout.specs.Layout.{isLanes}
+use Rattle.answers.specs.Answers.{answer, written}
 use Rattle.order.specs.Order.{most, starting}
 use Rattle.bodies.specs.Body.{bodyOf}
 use Rattle.bodies.specs.Reading.{valuesRefusal, bodyRefusal, listOf}

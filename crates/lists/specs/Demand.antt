@@ -10,13 +10,13 @@ use Prim.Native.Nat.{ℕ, _≤_, _<_, _^_}
 use lib.ListN.{length}
 use Rattle.modes.specs.declared.Mode.{Mode}
 use Rattle.modes.specs.Entries.{firstOf}
-use Rattle.blocks.specs.declared.refusal.Refusal.the-variants.{Accepted}
-use Rattle.blocks.specs.Refusals.{accepted}
-use Rattle.blocks.specs.Calls.{isLanes}
+use Rattle.answers.specs.declared.Refusal.the-variants.{Accepted}
+use Rattle.answers.specs.Refusals.{accepted}
+use Rattle.answers.specs.Answers.{over}
 use Rattle.order.specs.Order.{IsList}
 use Rattle.bodies.specs.Body.{bodyOf}
 use Rattle.lists.specs.Calls.{writeAnswer, writeOutput, readRefusal, readAnswer, readOutput}
-use Rattle.layout.specs.Layout.{over, Below}
+use Rattle.layout.specs.Layout.{Below, isLanes}
 
 -- bs is what the layout and the list rules write for vs, and that is a list of `count` values
 pub record Holds (L : ℕ) (m : Mode) (count : ℕ) (bs vs : List ℕ) : Type 0 where

@@ -6,7 +6,7 @@ use Rattle.layout.specs.Layout.{at, table, packed}
 use Rattle.modes.specs.declared.Initial.the-variants.{None, Number}
 use Rattle.modes.specs.declared.Mode.the-variants.{Plain, Sorted, Strict}
 use Rattle.modes.specs.Entries.{entries}
-use Rattle.blocks.specs.Refusals.{numberOf}
+use Rattle.answers.specs.Refusals.{numberOf}
 use Rattle.blocks.specs.Calls.{unpacked, packRefusal}
 use Rattle.bodies.specs.Body.{bodyOf}
 use Rattle.lists.specs.Calls.{writeRefusal, readRefusal, readOutput}

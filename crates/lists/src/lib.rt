@@ -1,9 +1,9 @@
 // The list calls of document 01, and one that measures. Each takes any input, tests all of it before it writes anything, and writes nothing where it refuses.
-use blocks::Answer;
-use blocks::is_lanes;
-use blocks::refusal::Refusal;
+use answers::Answer;
+use answers::Refusal;
 use check::body_refusal;
 use fetch::fetch_body;
+use lanes::is_lanes;
 use modes::Mode;
 use order::MOST;
 use order::in_order;
@@ -40,12 +40,9 @@ pub fn measure(lanes: usize, mode: Mode, values: &[u32]) -> Answer
 {
     let refusal = measure_refusal(lanes, mode, values);
     if !refusal.is_accepted() {
-        return Answer { refusal, length: 0 };
+        return Answer::refused(refusal);
     }
-    Answer {
-        refusal,
-        length: body_length(lanes, mode, values),
-    }
+    Answer::accepted(body_length(lanes, mode, values))
 }
 
 fn write_refusal(lanes: usize, mode: Mode, values: &[u32], room: usize) -> Refusal
@@ -68,10 +65,10 @@ pub fn write(lanes: usize, mode: Mode, values: &[u32], body: &mut [u8]) -> Answe
 {
     let refusal = write_refusal(lanes, mode, values, body.len());
     if !refusal.is_accepted() {
-        return Answer { refusal, length: 0 };
+        return Answer::refused(refusal);
     }
     let length = store_body(lanes, mode, values, &mut body[..]);
-    Answer { refusal, length }
+    Answer::accepted(length)
 }
 
 fn read_refusal(lanes: usize, mode: Mode, count: usize, body: &[u8], room: usize) -> Refusal
@@ -96,11 +93,8 @@ pub fn read(lanes: usize, mode: Mode, count: usize, body: &[u8], values: &mut [u
 {
     let refusal = read_refusal(lanes, mode, count, body, values.len());
     if !refusal.is_accepted() {
-        return Answer { refusal, length: 0 };
+        return Answer::refused(refusal);
     }
     fetch_body(lanes, mode, count, body, &mut values[..]);
-    Answer {
-        refusal,
-        length: count,
-    }
+    Answer::accepted(count)
 }

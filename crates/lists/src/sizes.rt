@@ -3,8 +3,7 @@ use blocks::compressed_block_size;
 ghost use mathlib.Core.Path.{_≡_};
 ghost use mathlib.Core.Bool.{true};
 ghost use Prim.Native.Nat.{_+_, _≤_, _<_, min};
-ghost use Rattle.layout.specs.Layout.{payloadSize};
-ghost use Rattle.blocks.specs.Calls.{isLanes};
+ghost use Rattle.layout.specs.Layout.{payloadSize, isLanes};
 
 pub(crate) fn lesser(a: usize, b: usize) -> usize
     ensures { λ r. ⌜ r ≡ min a b ⌝ }

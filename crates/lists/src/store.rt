@@ -10,8 +10,8 @@ ghost use mathlib.Core.Path.{_≡_};
 ghost use mathlib.Core.Bool.{true};
 ghost use Prim.Native.Nat.{_≤_};
 ghost use lib.ListN.{length, replicate};
-ghost use Rattle.layout.specs.Layout.{blockSize, over};
-ghost use Rattle.blocks.specs.Calls.{isLanes};
+ghost use Rattle.layout.specs.Layout.{blockSize, isLanes};
+ghost use Rattle.answers.specs.Answers.{over};
 ghost use Rattle.order.specs.Order.{most, entriesOf};
 ghost use Rattle.bodies.specs.Body.{block, bodyOf};
 

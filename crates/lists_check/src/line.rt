@@ -1,6 +1,6 @@
 // What is written behind the text of a case. A word comes with the blank before it and the `=` behind its name.
 use crate::buffers::wide;
-use blocks::Answer;
+use answers::Answer;
 use libc::STDOUT_FILENO;
 use tables::lesser;
 use tables::values_sum;

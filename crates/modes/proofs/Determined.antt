@@ -1,7 +1,7 @@
 -- For each public function of the crate: it asks nothing of its caller; two answers that its contract allows for one input are equal, and so
 -- is what it leaves in the memory that it was lent to write.
 use mathlib.Core.Path.{sym, _∙_}
-use Rattle.layout.proofs.Determined.{AsksNothing, AnswerDetermined}
+use Rattle.answers.proofs.Contracts.{AsksNothing, AnswerDetermined}
 use Rattle.lanes.proofs.Rows.{row-once, RowDetermined}
 use Rattle.modes.proofs.initial_value.Reads as initial-value
 use Rattle.modes.proofs.initial_value.Kinds as initial-value-kinds

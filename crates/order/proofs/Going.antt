@@ -7,7 +7,7 @@ use native.Mathlib.Omega.{arith}
 use lib.ListN.{length, take, drop, take-append-drop}
 use lib.Seq.{take-all, take-length}
 use Rattle.layout.specs.Layout.{at}
-use Rattle.layout.proofs.Fronts.{take-more}
+use Rattle.answers.proofs.Fronts.{take-more}
 use Rattle.modes.specs.declared.Mode.{Mode}
 use Rattle.order.specs.declared.Course.{Course}
 use Rattle.order.specs.Order.{after, afterAll, admits, ordered, nextEntry, nextValue, entriesOf, valuesOf, course}

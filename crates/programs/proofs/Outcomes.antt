@@ -8,19 +8,19 @@ use borrow.Author.Tests.{lt-ltb, le-ltb}
 use lib.ListN.{length, take, drop}
 use borrow.Rule.Slice.PartMut.{midOf}
 use lib.Seq.{take-all}
-use Rattle.layout.specs.Layout.{over}
-use Rattle.layout.proofs.Fronts.{take-over}
-use Rattle.layout.proofs.Parts.{part-is}
+use Rattle.answers.specs.Answers.{over}
+use Rattle.answers.proofs.Fronts.{take-over}
+use Rattle.answers.proofs.Parts.{part-is}
+use Rattle.answers.specs.declared.Answer.{Answer}
+use Rattle.answers.specs.declared.Refusal.{Refusal}
+use Rattle.answers.specs.declared.Refusal.the-variants.{Accepted, TooMany, BadHeader}
+use Rattle.answers.specs.Refusals.{accepted}
+use Rattle.layout.specs.Layout.{isLanes}
+use Rattle.answers.proofs.Refusals.{apart, both}
+use Rattle.layout.proofs.LaneCounts.{lanes-of}
 use Rattle.layout.proofs.Widths.{and-both}
 use Rattle.modes.specs.declared.Mode.{Mode}
-use Rattle.blocks.specs.declared.Answer.{Answer}
-use Rattle.blocks.specs.declared.refusal.Refusal.{Refusal}
-use Rattle.blocks.specs.declared.refusal.Refusal.the-variants.{Accepted, TooMany, BadHeader}
-use Rattle.blocks.specs.Refusals.{accepted}
-use Rattle.blocks.specs.Calls.{isLanes}
-use Rattle.blocks.proofs.Tests.{apart, lanes-of}
 use Rattle.order.specs.Order.{most}
-use Rattle.bodies.proofs.Tests.{both}
 use Rattle.bodies.proofs.Sizes.{length-list}
 use Rattle.lists.specs.Calls.{measureRefusal, measureAnswer}
 use Rattle.lists.proofs.Accepts.{Readable, read-exactly}

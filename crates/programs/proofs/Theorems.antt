@@ -8,20 +8,20 @@ use native.Mathlib.Omega.{arith}
 use borrow.Author.Tests.{le-ltb, ltb-false}
 use lib.Dec.{ltb}
 use lib.ListN.{length, length-append}
-use Rattle.layout.specs.Layout.{Below, over}
+use Rattle.layout.specs.Layout.{Below}
+use Rattle.answers.specs.Answers.{over}
+use Rattle.answers.specs.declared.Answer.{Answer}
+use Rattle.answers.specs.declared.Refusal.{Refusal}
+use Rattle.answers.specs.declared.Refusal.the-variants.{Accepted, NoRoom, TooMany, OutOfOrder, BadHeader}
+use Rattle.answers.specs.Refusals.{numberOf, accepted, refuse, orElse}
+use Rattle.answers.proofs.Refusals.{apart, passed, both, refused, either}
 use Rattle.layout.proofs.Widths.{and-both}
 use Rattle.modes.specs.declared.Mode.{Mode}
-use Rattle.blocks.specs.declared.Answer.{Answer}
-use Rattle.blocks.specs.declared.refusal.Refusal.{Refusal}
-use Rattle.blocks.specs.declared.refusal.Refusal.the-variants.{Accepted, NoRoom, TooMany, OutOfOrder, BadHeader}
-use Rattle.blocks.specs.Refusals.{numberOf, accepted, refuse, orElse}
-use Rattle.blocks.proofs.Tests.{apart, passed}
 use Rattle.order.specs.Order.{most, starting, ordered, IsList}
 use Rattle.bodies.specs.Body.{bodyOf}
 use Rattle.bodies.specs.Reading.{bodyRefusal, listOf}
-use Rattle.bodies.proofs.Tests.{both}
 use Rattle.bodies.proofs.Sizes.{body-short}
-use Rattle.bodies.proofs.Numbers.{refused, either, body-only}
+use Rattle.bodies.proofs.Numbers.{body-only}
 use Rattle.lists.specs.Calls.{measureRefusal, readRefusal}
 use Rattle.lists.proofs.Accepts.{measure-exactly}
 use Rattle.text.specs.Text.{word, same}

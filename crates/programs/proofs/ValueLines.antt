@@ -10,9 +10,10 @@ use lib.Dec.{eqb, ltb}
 use lib.ListN.{length, set, take, drop, length-append, drop-of-length-le}
 use lib.Seq.{take-all, drop-drop, length-take-le, take-append-le}
 use borrow.Rule.Slice.PartMut.{midOf, putMid}
-use Rattle.layout.specs.Layout.{at, over}
-use Rattle.layout.proofs.Parts.{part-is, part-length}
-use Rattle.layout.proofs.Fronts.{take-more, Front, front-none, front-length, front-put, front-part}
+use Rattle.layout.specs.Layout.{at}
+use Rattle.answers.specs.Answers.{over}
+use Rattle.answers.proofs.Parts.{part-is, part-length}
+use Rattle.answers.proofs.Fronts.{take-more, Front, front-none, front-length, front-put, front-part}
 use Rattle.text.specs.Text.{word, decimal, begins, same, fitted, fieldAt}
 use Rattle.text.proofs.Decimals.{decimal-some}
 use Rattle.text.proofs.Lines.{put-whole, number-line-short, line-rest}

@@ -7,11 +7,11 @@ use lib.Dec.{ltb, eqb}
 use lib.ListN.{length, drop}
 use Rattle.layout.specs.Layout.{Below}
 use Rattle.modes.specs.declared.Mode.{Mode}
-use Rattle.blocks.specs.declared.Answer.{Answer}
-use Rattle.blocks.specs.declared.refusal.Refusal.{Refusal}
-use Rattle.blocks.specs.declared.refusal.Refusal.the-variants.{Accepted, NoRoom, BadHeader}
-use Rattle.blocks.specs.Refusals.{numberOf, accepted, refuse, orElse}
-use Rattle.blocks.specs.Calls.{answer, written}
+use Rattle.answers.specs.declared.Answer.{Answer}
+use Rattle.answers.specs.declared.Refusal.{Refusal}
+use Rattle.answers.specs.declared.Refusal.the-variants.{Accepted, NoRoom, BadHeader}
+use Rattle.answers.specs.Refusals.{numberOf, accepted, refuse, orElse}
+use Rattle.answers.specs.Answers.{answer, written}
 use Rattle.order.specs.Order.{most}
 use Rattle.lists.specs.Calls.{measureRefusal}
 use Rattle.text.specs.Text.{decimal, line, same}

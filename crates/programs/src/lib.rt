@@ -1,6 +1,6 @@
 // What the two programs write for what they read: from bytes to bytes, for any input.
-use blocks::Answer;
-use blocks::refusal::Refusal;
+use answers::Answer;
+use answers::Refusal;
 use files::settings;
 use lines::put_values;
 use lines::read_values;
@@ -29,16 +29,9 @@ fn hand_out(text: &[u8], out: &mut [u8]) -> Answer
     ensures { λ r. ⌜ now (out .exit) ≡ outLeft (now (text .entry)) (now (out .entry)) ⌝ }
 {
     if out.len() < text.len() {
-        return Answer {
-            refusal: Refusal::NoRoom,
-            length: 0,
-        };
+        return Answer::refused(Refusal::NoRoom);
     }
-    let length = put(text, out);
-    Answer {
-        refusal: Refusal::Accepted,
-        length,
-    }
+    Answer::accepted(put(text, out))
 }
 
 // The line `refused=` and the number.

@@ -8,7 +8,7 @@ ghost use mathlib.Core.List.{[]};
 ghost use Prim.Native.Nat.{_*_, _≤_};
 ghost use lib.Dec.{ltb};
 ghost use lib.ListN.{length, set, take};
-ghost use Rattle.layout.specs.Layout.{over};
+ghost use Rattle.answers.specs.Answers.{over};
 ghost use Rattle.text.specs.Text.{begins, same};
 ghost use Rattle.programs.specs.Lines.{valueLine, valueLines};
 ghost use Rattle.programs.specs.kernel.Lines.{linesIn};

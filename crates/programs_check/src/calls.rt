@@ -1,6 +1,6 @@
 // One program on one input: a word with what it answers, and the checksum of its output afterwards.
 use crate::buffers::marked_bytes;
-use blocks::Answer;
+use answers::Answer;
 use libc::STDOUT_FILENO;
 use programs::list_to_text;
 use programs::text_to_list;

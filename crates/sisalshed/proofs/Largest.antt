@@ -10,7 +10,7 @@ use native.Mathlib.Decide.{decLt}
 use borrow.Author.Tests.{lt-ltb, le-ltb, leb-true, ltb-true}
 use lib.Dec.{leb, ltb}
 use lib.ListN.{length, take, drop, getD, length-append, take-append-drop}
-use Rattle.layout.specs.Layout.{Below, blockSize}
+use Rattle.layout.specs.Layout.{Below, blockSize, isLanes}
 use Rattle.layout.proofs.Tables.{length-packed}
 use Rattle.layout.proofs.Widths.{and-both, fits-of, fits-exactly, width-most}
 use Rattle.modes.specs.declared.Initial.{Initial}
@@ -18,9 +18,8 @@ use Rattle.modes.specs.declared.Initial.the-variants.{None, Number}
 use Rattle.modes.specs.declared.Mode.{Mode}
 use Rattle.modes.specs.declared.Mode.the-variants.{Plain, Sorted, Strict}
 use Rattle.modes.specs.Entries.{firstOf}
-use Rattle.blocks.specs.Refusals.{accepted}
-use Rattle.blocks.specs.Calls.{isLanes}
-use Rattle.blocks.proofs.Tests.{for-lanes}
+use Rattle.answers.specs.Refusals.{accepted}
+use Rattle.layout.proofs.LaneCounts.{for-lanes}
 use Rattle.text.specs.Text.{places, decimal}
 use Rattle.text.proofs.Decimals.{length-digits}
 use Rattle.order.specs.Order.{most, startingInitial, starting, ordered, entriesOf}

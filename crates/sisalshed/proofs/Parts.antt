@@ -5,8 +5,8 @@ use mathlib.Core.List.{List}
 use Prim.Native.Nat.{ℕ, _+_, _-_, _≤_}
 use native.Mathlib.Omega.{arith}
 use lib.ListN.{length, length-append}
-use Rattle.blocks.specs.declared.refusal.Refusal.the-variants.{Accepted, BadHeader}
-use Rattle.blocks.specs.Refusals.{numberOf, accepted, refuse}
+use Rattle.answers.specs.declared.Refusal.the-variants.{Accepted, BadHeader}
+use Rattle.answers.specs.Refusals.{numberOf, accepted, refuse}
 use Rattle.text.proofs.Beginnings.{begins-whole}
 use Rattle.files.specs.declared.Opened.{Opened}
 use Rattle.files.specs.Header.{headerText}

@@ -9,9 +9,9 @@ use lib.Seq.{take-length}
 use Rattle.modes.specs.declared.Initial.the-variants.{None, Number}
 use Rattle.modes.specs.declared.Mode.{Mode}
 use Rattle.modes.specs.declared.Mode.the-variants.{Plain, Sorted, Strict}
-use Rattle.blocks.specs.declared.refusal.Refusal.{Refusal}
-use Rattle.blocks.specs.declared.refusal.Refusal.the-variants.{Accepted, BadLanes, BadWidth, BadBlock, NoRoom, CutShort, TooWide, TooMany, OutOfOrder, NotLeast, BadFill, LeftOver, BadHeader}
-use Rattle.blocks.specs.Refusals.{numberOf}
+use Rattle.answers.specs.declared.Refusal.{Refusal}
+use Rattle.answers.specs.declared.Refusal.the-variants.{Accepted, BadLanes, BadWidth, BadBlock, NoRoom, CutShort, TooWide, TooMany, OutOfOrder, NotLeast, BadFill, LeftOver, BadHeader}
+use Rattle.answers.specs.Refusals.{numberOf}
 use Rattle.files.specs.Opening.{bodyIn, isFile, openAnswer}
 use Rattle.sisalshed.specs.Crossing.{modeOf, kindOf, firstGiven}
 use Rattle.sisalshed.specs.Calls.{bodyCrossed}

@@ -4,7 +4,7 @@ use mathlib.Core.Bool.{cond}
 use mathlib.Core.List.{List}
 use Prim.Native.Nat.{ℕ}
 use lib.ListN.{length}
-use Rattle.blocks.specs.Refusals.{numberOf}
+use Rattle.answers.specs.Refusals.{numberOf}
 use Rattle.blocks.specs.Calls.{sizeAnswer, packAnswer, packOutput, unpackAnswer, unpackOutput, widthAnswer}
 use Rattle.lists.specs.Calls.{measureAnswer, writeAnswer, writeOutput, readAnswer, readOutput}
 use Rattle.files.specs.Header.{headerText}

@@ -5,10 +5,10 @@ use lib.Dec.{ltb}
 use Rattle.modes.specs.declared.Initial.the-variants.{None, Number}
 use Rattle.modes.specs.declared.Mode.{Mode}
 use Rattle.modes.specs.declared.Mode.the-variants.{Plain, Sorted, Strict}
-use Rattle.blocks.specs.declared.Answer.{Answer}
+use Rattle.answers.specs.declared.Answer.{Answer}
+use Rattle.answers.specs.declared.Refusal.the-variants.{BadHeader}
+use Rattle.answers.specs.Refusals.{numberOf}
 use Rattle.blocks.specs.declared.Width.{Width}
-use Rattle.blocks.specs.declared.refusal.Refusal.the-variants.{BadHeader}
-use Rattle.blocks.specs.Refusals.{numberOf}
 use Rattle.sisalshed.specs.declared.CAnswer.{CAnswer}
 
 -- a kind is 0, 1, 2 or 3

@@ -1,8 +1,8 @@
 // What crosses to C and back: an enum cannot, so the mode crosses as two numbers and the refusal as its number.
 use crate::CAnswer;
-use blocks::Answer;
+use answers::Answer;
+use answers::Refusal;
 use blocks::Width;
-use blocks::refusal::Refusal;
 use modes::Initial;
 use modes::Mode;
 ghost use mathlib.Core.Path.{_≡_};

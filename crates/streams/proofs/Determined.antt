@@ -1,5 +1,5 @@
 -- Each public function of the crate asks nothing of its caller. (What is read no contract can say: neither has an answer to determine.)
-use Rattle.layout.proofs.Determined.{AsksNothing}
+use Rattle.answers.proofs.Contracts.{AsksNothing}
 use Rattle.streams.proofs.read_input.Reads as read-input
 use Rattle.streams.proofs.read_input.Kinds as read-input-kinds
 use Rattle.streams.proofs.write_output.Reads as write-output

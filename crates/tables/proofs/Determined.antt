@@ -1,7 +1,7 @@
 -- For each public function of the crate: it asks nothing of its caller; two answers that its contract allows for one input are equal, and so
 -- is what it leaves in the memory that it was lent to write.
 use mathlib.Core.Path.{sym, _∙_}
-use Rattle.layout.proofs.Determined.{AsksNothing, AnswerDetermined, Determined}
+use Rattle.answers.proofs.Contracts.{AsksNothing, AnswerDetermined, Determined}
 use Rattle.tables.proofs.lesser.Reads as lesser
 use Rattle.tables.proofs.lesser.Kinds as lesser-kinds
 use Rattle.tables.proofs.bytes_sum.Reads as bytes-sum

@@ -2,7 +2,8 @@
 ghost use mathlib.Core.Path.{_≡_};
 ghost use Prim.Native.Nat.{_+_, _*_, _/_, _%_, _≤_, _<_, min};
 ghost use lib.ListN.{length, take};
-ghost use Rattle.layout.specs.Layout.{table, over};
+ghost use Rattle.layout.specs.Layout.{table};
+ghost use Rattle.answers.specs.Answers.{over};
 ghost use Rattle.tables.specs.Tables.{checksum, digitOf, hexByte, placeOf};
 
 pub fn lesser(a: usize, b: usize) -> usize

@@ -6,9 +6,9 @@ use Prim.Native.Nat.{ℕ, _+_, _-_, _≤_, _<_}
 use native.Mathlib.Omega.{arith}
 use lib.ListN.{length, set, length-append}
 use borrow.Rule.Slice.PartMut.{midOf, putMid}
-use Rattle.layout.specs.Layout.{over}
-use Rattle.layout.proofs.Parts.{part-length}
-use Rattle.layout.proofs.Fronts.{Front, front-length, front-put, front-part}
+use Rattle.answers.specs.Answers.{over}
+use Rattle.answers.proofs.Parts.{part-length}
+use Rattle.answers.proofs.Fronts.{Front, front-length, front-put, front-part}
 use Rattle.text.specs.Text.{word, decimal, fitted, line}
 use Rattle.text.proofs.Decimals.{fitted-all, decimal-short}
 

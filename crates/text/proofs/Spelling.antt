@@ -7,8 +7,8 @@ use native.Mathlib.Omega.{arith}
 use native.Mathlib.Decide.{decLt}
 use borrow.Author.Tests.{lt-ltb, le-ltb}
 use lib.ListN.{length, set, length-append}
-use Rattle.layout.specs.Layout.{over}
-use Rattle.layout.proofs.Fronts.{Front, front-none, front-length, front-put}
+use Rattle.answers.specs.Answers.{over}
+use Rattle.answers.proofs.Fronts.{Front, front-none, front-length, front-put}
 use Rattle.text.specs.Text.{digits, places, decimal}
 use Rattle.text.proofs.Decimals.{length-digits, digits-front, places-some, decimal-short}
 

@@ -3,7 +3,7 @@ ghost use mathlib.Core.Path.{_≡_};
 ghost use mathlib.Core.List.{[], _∷_, _++_};
 ghost use Prim.Native.Nat.{ℕ, _+_, _-_, _^_, _≤_};
 ghost use lib.ListN.{length};
-ghost use Rattle.layout.specs.Layout.{over};
+ghost use Rattle.answers.specs.Answers.{over};
 ghost use Rattle.text.specs.Text.{places, decimal, fitted, begins, numberAt, fieldAt};
 
 // The word at the front of `out`, where there is room for it. Answers its length, and 0 where there is none.

@@ -6,9 +6,10 @@ use native.Mathlib.Omega.{arith}
 use borrow.Author.Tests.{not-true, not-false}
 use Rattle.layout.specs.Layout.{at, packed}
 use Rattle.modes.specs.Entries.{entries}
-use Rattle.blocks.specs.Refusals.{accepted}
-use Rattle.blocks.proofs.Tests.{Packable, pack-exactly, lanes-of}
-use Rattle.blocks.proofs.Answers.{refused, untouched, answered, overwritten}
+use Rattle.answers.specs.Refusals.{accepted}
+use Rattle.layout.proofs.LaneCounts.{lanes-of}
+use Rattle.answers.proofs.Answers.{refused, untouched, answered, overwritten}
+use Rattle.blocks.proofs.Tests.{Packable, pack-exactly}
 use borrow.Author.Needs.{needs}
 use Rattle.blocks.proofs.compress.Statement.{statement}
 use Rattle.blocks.proofs.compress.Tie as tie
@@ -21,10 +22,11 @@ able c = pack-exactly _ _ _ _ _ .0 (rw (c .before .before .pack-refusal .ensures
 
 returns : tie.Need-returns
 returns c =
-    let k = c .before .before .pack-refusal .ensures in
-    let h = sym (c .before .is-accepted .ensures) ∙ not-true _ (c .if1 .taken) in
-    let a = c .before .before .before .before .before .args in
-    (refused k h _, untouched k h (packed (a .lanes) (a .width) (entries (a .mode) (at (a .decompressed .now)))) _)
+    let t = c .before in
+    let k = t .before .before .pack-refusal .ensures in
+    let h = sym (t .before .is-accepted .ensures) ∙ not-true _ (t .if1 .taken) in
+    let a = t .before .before .before .before .before .args in
+    (refused k h (c .refused .ensures) _, untouched k h (packed (a .lanes) (a .width) (entries (a .mode) (at (a .decompressed .now)))) _)
 
 pack-requires : tie.Need-pack-requires
 pack-requires c κs =
@@ -39,13 +41,14 @@ compute-num-bytes-per-block-requires c κs =
 
 returns-2 : tie.Need-returns-2
 returns-2 c =
-    let d = c .before in
+    let n = c .before in
+    let d = n .before in
     let e = d .before .before .before .before in
     let k = e .before .before .pack-refusal .ensures in
     let a = e .before .before .before .before .before .args in (
-      answered k (yes-accepted e) (c .compute-num-bytes-per-block .ensures),
+      answered k (yes-accepted e) (c .accepted .ensures) (n .compute-num-bytes-per-block .ensures),
       overwritten k (yes-accepted e) (packed (a .lanes) (a .width) (entries (a .mode) (at (a .decompressed .now)))) (a .compressed .now) (d .before .before .pack .ensures),
     )
 
 pub compress-spec : {M : Type 1} → statement M
-compress-spec = tie.close (tie.spec (search needs) (search needs) returns pack-requires compute-num-bytes-per-block-requires (search needs) returns-2)
+compress-spec = tie.close (tie.spec (search needs) (search needs) (search needs) returns pack-requires compute-num-bytes-per-block-requires (search needs) (search needs) returns-2)

@@ -2,9 +2,10 @@
 use mathlib.Core.Path.{_≡_, sym, _∙_}
 use mathlib.Core.Bool.{true}
 use borrow.Author.Tests.{not-true, not-false}
-use Rattle.blocks.specs.Refusals.{accepted}
-use Rattle.blocks.proofs.Tests.{Sizable, size-exactly, lanes-of}
-use Rattle.blocks.proofs.Answers.{refused, answered}
+use Rattle.answers.specs.Refusals.{accepted}
+use Rattle.layout.proofs.LaneCounts.{lanes-of}
+use Rattle.answers.proofs.Answers.{refused, answered}
+use Rattle.blocks.proofs.Tests.{Sizable, size-exactly}
 use borrow.Author.Needs.{needs}
 use Rattle.blocks.proofs.compressed_block_size.Statement.{statement}
 use Rattle.blocks.proofs.compressed_block_size.Tie as tie
@@ -17,15 +18,16 @@ able c = size-exactly _ _ .0 (rw (c .before .before .size-refusal .ensures) at (
 
 returns : tie.Need-returns
 returns c =
-    refused (c .before .before .size-refusal .ensures) (sym (c .before .is-accepted .ensures) ∙ not-true _ (c .if1 .taken)) _
+    let t = c .before in
+    refused (t .before .before .size-refusal .ensures) (sym (t .before .is-accepted .ensures) ∙ not-true _ (t .if1 .taken)) (c .refused .ensures) _
 
 compute-num-bytes-per-block-requires : tie.Need-compute-num-bytes-per-block-requires
 compute-num-bytes-per-block-requires c κs = (lanes-of _ (able c .lanes) .1, able c .width)
 
 returns-2 : tie.Need-returns-2
 returns-2 c =
-    let e = c .before in
-    answered (e .before .before .size-refusal .ensures) (yes-accepted e) (c .compute-num-bytes-per-block .ensures)
+    let e = c .before .before in
+    answered (e .before .before .size-refusal .ensures) (yes-accepted e) (c .accepted .ensures) (c .before .compute-num-bytes-per-block .ensures)
 
 pub compressed-block-size-spec : {M : Type 1} → statement M
-compressed-block-size-spec = tie.close (tie.spec (search needs) (search needs) returns compute-num-bytes-per-block-requires returns-2)
+compressed-block-size-spec = tie.close (tie.spec (search needs) (search needs) (search needs) returns compute-num-bytes-per-block-requires (search needs) returns-2)

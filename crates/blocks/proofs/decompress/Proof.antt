@@ -4,9 +4,10 @@ use mathlib.Core.Bool.{true}
 use lib.ListN.{length}
 use borrow.Author.Tests.{not-true, not-false}
 use Rattle.blocks.specs.Calls.{unpacked}
-use Rattle.blocks.specs.Refusals.{accepted}
-use Rattle.blocks.proofs.Tests.{Unpackable, unpack-exactly, lanes-of}
-use Rattle.blocks.proofs.Answers.{refused, untouched, answered, overwritten}
+use Rattle.answers.specs.Refusals.{accepted}
+use Rattle.layout.proofs.LaneCounts.{lanes-of}
+use Rattle.answers.proofs.Answers.{refused, untouched, answered, overwritten}
+use Rattle.blocks.proofs.Tests.{Unpackable, unpack-exactly}
 use borrow.Author.Needs.{needs}
 use Rattle.blocks.proofs.decompress.Statement.{statement}
 use Rattle.blocks.proofs.decompress.Tie as tie
@@ -19,10 +20,11 @@ able c = unpack-exactly _ _ _ _ .0 (rw (c .before .before .unpack-refusal .ensur
 
 returns : tie.Need-returns
 returns c =
-    let k = c .before .before .unpack-refusal .ensures in
-    let h = sym (c .before .is-accepted .ensures) ∙ not-true _ (c .if1 .taken) in
-    let a = c .before .before .before .before .before .args in
-    (refused k h _, untouched k h (unpacked (a .lanes) (a .mode) (a .compressed .now) (a .width)) _)
+    let t = c .before in
+    let k = t .before .before .unpack-refusal .ensures in
+    let h = sym (t .before .is-accepted .ensures) ∙ not-true _ (t .if1 .taken) in
+    let a = t .before .before .before .before .before .args in
+    (refused k h (c .refused .ensures) _, untouched k h (unpacked (a .lanes) (a .mode) (a .compressed .now) (a .width)) _)
 
 unpack-requires : tie.Need-unpack-requires
 unpack-requires c κs =
@@ -37,13 +39,14 @@ compute-num-bytes-per-block-requires c κs =
 
 returns-2 : tie.Need-returns-2
 returns-2 c =
-    let d = c .before in
+    let n = c .before in
+    let d = n .before in
     let e = d .before .before .before .before in
     let k = e .before .before .unpack-refusal .ensures in
     let a = e .before .before .before .before .before .args in (
-      answered k (yes-accepted e) (c .compute-num-bytes-per-block .ensures),
+      answered k (yes-accepted e) (c .accepted .ensures) (n .compute-num-bytes-per-block .ensures),
       overwritten k (yes-accepted e) (unpacked (a .lanes) (a .mode) (a .compressed .now) (a .width)) (a .decompressed .now) (d .before .before .unpack .ensures),
     )
 
 pub decompress-spec : {M : Type 1} → statement M
-decompress-spec = tie.close (tie.spec (search needs) (search needs) returns unpack-requires compute-num-bytes-per-block-requires (search needs) returns-2)
+decompress-spec = tie.close (tie.spec (search needs) (search needs) (search needs) returns unpack-requires compute-num-bytes-per-block-requires (search needs) (search needs) returns-2)

@@ -4,9 +4,10 @@ use mathlib.Core.Bool.{true}
 use lib.ListN.{length}
 use native.Mathlib.Omega.{arith}
 use borrow.Author.Tests.{not-true, not-false}
-use Rattle.blocks.specs.Refusals.{accepted}
-use Rattle.blocks.proofs.Tests.{Measurable, width-exactly, lanes-of}
-use Rattle.blocks.proofs.Answers.{unmeasured, measured}
+use Rattle.answers.specs.Refusals.{accepted}
+use Rattle.layout.proofs.LaneCounts.{lanes-of}
+use Rattle.blocks.proofs.Tests.{Measurable, width-exactly}
+use Rattle.blocks.proofs.Widths.{unmeasured, measured}
 use borrow.Author.Needs.{needs}
 use Rattle.blocks.proofs.num_bits.Statement.{statement}
 use Rattle.blocks.proofs.num_bits.Tie as tie

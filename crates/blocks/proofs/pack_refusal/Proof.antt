@@ -5,12 +5,11 @@ use Prim.Native.Nat.{_*_}
 use native.Mathlib.Omega.{arith}
 use borrow.Author.Tests.{lt-ltb, le-ltb, eq-eqb, ne-eqb, not-true, not-false}
 use lib.ListN.{length}
-use Rattle.layout.specs.Layout.{at, blockSize, payloadSize}
+use Rattle.layout.specs.Layout.{at, blockSize, payloadSize, isLanes}
 use Rattle.layout.proofs.Widths.{Fit, fits-exactly, fits-not}
 use Rattle.modes.specs.Entries.{entries}
 use Rattle.modes.proofs.Undo.{entries-small}
-use Rattle.blocks.specs.Calls.{isLanes}
-use Rattle.blocks.proofs.Tests.{lanes-of}
+use Rattle.layout.proofs.LaneCounts.{lanes-of}
 use borrow.Author.Needs.{needs}
 use Rattle.blocks.proofs.pack_refusal.Statement.{statement}
 use Rattle.blocks.proofs.pack_refusal.Tie as tie

@@ -4,9 +4,8 @@ use mathlib.Core.Bool.{true}
 use Prim.Native.Nat.{_*_}
 use native.Mathlib.Omega.{arith}
 use borrow.Author.Tests.{lt-ltb, le-ltb, not-true, not-false}
-use Rattle.layout.specs.Layout.{payloadSize}
-use Rattle.blocks.specs.Calls.{isLanes}
-use Rattle.blocks.proofs.Tests.{lanes-of}
+use Rattle.layout.specs.Layout.{payloadSize, isLanes}
+use Rattle.layout.proofs.LaneCounts.{lanes-of}
 use borrow.Author.Needs.{needs}
 use Rattle.blocks.proofs.unpack_refusal.Statement.{statement}
 use Rattle.blocks.proofs.unpack_refusal.Tie as tie

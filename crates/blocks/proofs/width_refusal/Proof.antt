@@ -4,8 +4,8 @@ use mathlib.Core.Bool.{true}
 use Prim.Native.Nat.{_*_}
 use native.Mathlib.Omega.{arith}
 use borrow.Author.Tests.{eq-eqb, ne-eqb, not-true, not-false}
-use Rattle.blocks.specs.Calls.{isLanes}
-use Rattle.blocks.proofs.Tests.{lanes-of}
+use Rattle.layout.specs.Layout.{isLanes}
+use Rattle.layout.proofs.LaneCounts.{lanes-of}
 use borrow.Author.Needs.{needs}
 use Rattle.blocks.proofs.width_refusal.Statement.{statement}
 use Rattle.blocks.proofs.width_refusal.Tie as tie

@@ -5,6 +5,10 @@ use Prim.Native.Nat.{ℕ, _+_, _*_, _-_, _/_, _%_, _^_, _≤_, _<_}
 use lib.ListN.{set, length}
 use Rattle.layout.specs.Layout.{at}
 
+-- x is row r of e 0, e 1, ..: "Entry k is in lane k mod L and row k div L."
+abbrev pub RowOf : ℕ → (ℕ → ℕ) → ℕ → List ℕ → Type 0
+RowOf L e r x = (l : ℕ) → l < L → at x l ≡ e (r * L + l)
+
 -- the bytes with the word v stored from byte i on
 abbrev pub withWord : List ℕ → ℕ → ℕ → List ℕ
 withWord bs i v =

@@ -8,8 +8,8 @@ use native.Mathlib.Omega.{arith}
 use borrow.Author.Tests.{not-true, not-false}
 use lib.ListN.{length, take, replicate}
 use lib.Seq.{length-take-le}
-use Rattle.layout.proofs.Fronts.{take-over}
-use Rattle.blocks.specs.Calls.{isLanes}
+use Rattle.answers.proofs.Fronts.{take-over}
+use Rattle.layout.specs.Layout.{isLanes}
 use Rattle.text.specs.Text.{begins}
 use Rattle.text.proofs.Beginnings.{begins-within}
 use Rattle.files.specs.Header.{headerText}

@@ -5,7 +5,7 @@ use Prim.Native.Nat.{ℕ, _≤_}
 use native.Mathlib.Omega.{arith}
 use borrow.Author.Tests.{not-true, not-false}
 use lib.ListN.{length, drop}
-use Rattle.layout.proofs.Parts.{part-is}
+use Rattle.answers.proofs.Parts.{part-is}
 use Rattle.text.proofs.Beginnings.{begins-within}
 use Rattle.files.specs.Header.{headerText}
 use Rattle.files.specs.kernel.Fields.{headerIn}

@@ -7,7 +7,9 @@ use Rattle.files.proofs.read.Statement.{statement}
 use Rattle.files.proofs.read.Tie as tie
 
 returns : tie.Need-returns
-returns c = bad-file _ _ (sym (c .before .is-file .ensures) ∙ not-true _ (c .if1 .taken))
+returns c =
+    let t = c .before in
+    bad-file _ _ (sym (t .before .is-file .ensures) ∙ not-true _ (t .if1 .taken)) (c .refused .ensures)
 
 returns-2 : tie.Need-returns-2
 returns-2 c =
@@ -21,6 +23,7 @@ pub read-spec : {M : Type 1} → statement M
 read-spec =
     tie.close
     (tie.spec
+    (search needs)
     (search needs)
     returns
     (search needs)

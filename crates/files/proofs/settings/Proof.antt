@@ -7,9 +7,9 @@ use native.Mathlib.Omega.{arith}
 use borrow.Author.Tests.{not-true, not-false}
 use lib.ListN.{length, take, replicate}
 use lib.Seq.{length-take-le}
-use Rattle.layout.proofs.Fronts.{take-over}
-use Rattle.blocks.specs.Calls.{isLanes}
-use Rattle.blocks.specs.declared.refusal.Refusal.the-variants.{Accepted}
+use Rattle.answers.proofs.Fronts.{take-over}
+use Rattle.layout.specs.Layout.{isLanes}
+use Rattle.answers.specs.declared.Refusal.the-variants.{Accepted}
 use Rattle.text.specs.Text.{begins}
 use Rattle.files.specs.Header.{settings}
 use Rattle.files.proofs.Lines.{settings-short}

@@ -6,8 +6,8 @@ use native.Mathlib.Omega.{arith}
 use borrow.Author.Tests.{not-true, not-false}
 use lib.ListN.{length}
 use lib.Seq.{length-take-le}
-use Rattle.blocks.specs.Refusals.{accepted}
-use Rattle.blocks.proofs.Tests.{lanes-of}
+use Rattle.answers.specs.Refusals.{accepted}
+use Rattle.layout.proofs.LaneCounts.{lanes-of}
 use Rattle.files.proofs.Filing.{not-measured, able, length-small, text-small, no-room, head-within, file-kept, file-done}
 use borrow.Author.Needs.{needs}
 use Rattle.files.proofs.write.Statement.{statement}
@@ -15,8 +15,9 @@ use Rattle.files.proofs.write.Tie as tie
 
 returns : tie.Need-returns
 returns c =
-    let s = c .before .before .before .before .before in
-    not-measured (s .args .lanes) (s .args .mode) (s .args .values .now) (s .args .file .now) (c .before .before .measure .ensures) (sym (c .before .is-accepted .ensures) ∙ not-true _ (c .if1 .taken))
+    let t = c .before in
+    let s = t .before .before .before .before .before in
+    not-measured (s .args .lanes) (s .args .mode) (s .args .values .now) (s .args .file .now) (t .before .before .measure .ensures) (sym (t .before .is-accepted .ensures) ∙ not-true _ (t .if1 .taken)) (c .refused .ensures)
 
 ok : (c : tie.Else1) → accepted (c .before .before .measure .result .refusal) ≡ true
 ok c = sym (c .before .is-accepted .ensures) ∙ not-false _ (c .if1 .left)
@@ -50,10 +51,11 @@ add-if2 c = omega (arith, short (c .before), small (c .before .before .before))
 
 returns-2 : tie.Need-returns-2
 returns-2 c =
-    let p = c .before .before in
+    let t = c .before in
+    let p = t .before .before in
     let e = p .before .before in
     let s = e .before .before .before .before .before in
-    no-room (s .args .lanes) (s .args .mode) (s .args .values .now) (s .args .file .now) (e .before .before .measure .result) (e .before .before .measure .ensures) (ok e) _ (p .put-header .ensures .0) (c .if2 .taken)
+    no-room (s .args .lanes) (s .args .mode) (s .args .values .now) (s .args .file .now) (e .before .before .measure .result) (e .before .before .measure .ensures) (ok e) _ (p .put-header .ensures .0) (t .if2 .taken) (c .refused2 .ensures)
 
 array-share-prefix-text : tie.Need-array-share-prefix-text
 array-share-prefix-text c = omega (arith, short (c .before .before), c .before .before .put-header .kept)
@@ -78,14 +80,14 @@ sub-write c = within c
 part-write-start : tie.Need-part-write-start
 part-write-start c = within c
 
-add-t14 : tie.Need-add-t14
-add-t14 c =
+add-accepted : tie.Need-add-accepted
+add-accepted c =
     let p = c .before .before .before .before .before .before .before .before .before .before .before in
     omega (arith, short p, small (p .before .before))
 
 same-length : tie.Need-same-length
 same-length c =
-    let w = c .before .before in
+    let w = c .before .before .before in
     let q = w .before .before .before .before in
     let l = q .before .before .before in
     let p = l .before .before in
@@ -96,19 +98,20 @@ same-length c =
 
 returns-3 : tie.Need-returns-3
 returns-3 c =
-    let w = c .before .before in
+    let w = c .before .before .before in
     let q = w .before .before .before .before in
     let l = q .before .before .before in
     let p = l .before .before in
     let e = p .before .before in
     let s = e .before .before .before .before .before in
     file-done (s .args .lanes) (s .args .mode) (s .args .values .now) (s .args .file .now) (e .before .before .measure .result) (e .before .before .measure .ensures) (ok e) _ (p .put-header .ensures .0) (l .if2 .left) (p .put-header .last .1 .0) (q .put .last .1 .0) (p .put-header .ensures .1) (q .put .ensures .1)
-    (w .write .last .1 .1 .1 .0) (w .write .ensures .1)
+    (w .write .last .1 .1 .1 .0) (w .write .ensures .1) (c .accepted .ensures)
 
 pub write-spec : {M : Type 1} → statement M
 write-spec =
     tie.close
     (tie.spec
+    (search needs)
     (search needs)
     (search needs)
     returns
@@ -118,6 +121,7 @@ write-spec =
     (search needs)
     (search needs)
     add-if2
+    (search needs)
     returns-2
     array-share-prefix-text
     slice-aggregate-put
@@ -126,6 +130,7 @@ write-spec =
     part-write-start
     (search needs)
     (search needs)
-    add-t14
+    add-accepted
+    (search needs)
     same-length
     returns-3)

@@ -2,8 +2,8 @@
 use mathlib.Core.Path.{_≡_, sym, _∙_}
 use mathlib.Core.Bool.{true}
 use borrow.Author.Tests.{not-true, not-false}
-use Rattle.blocks.specs.Refusals.{accepted}
-use Rattle.blocks.proofs.Answers.{refused, answered}
+use Rattle.answers.specs.Refusals.{accepted}
+use Rattle.answers.proofs.Answers.{refused, answered}
 use Rattle.lists.proofs.Accepts.{measure-exactly}
 use borrow.Author.Needs.{needs}
 use Rattle.lists.proofs.measure.Statement.{statement}
@@ -13,7 +13,9 @@ yes-accepted : (c : tie.Else1) → accepted (c .before .before .measure-refusal 
 yes-accepted c = sym (c .before .is-accepted .ensures) ∙ not-false _ (c .if1 .left)
 
 returns : tie.Need-returns
-returns c = refused (c .before .before .measure-refusal .ensures) (sym (c .before .is-accepted .ensures) ∙ not-true _ (c .if1 .taken)) _
+returns c =
+    let t = c .before in
+    refused (t .before .before .measure-refusal .ensures) (sym (t .before .is-accepted .ensures) ∙ not-true _ (t .if1 .taken)) (c .refused .ensures) _
 
 body-length-requires : tie.Need-body-length-requires
 body-length-requires c κs =
@@ -22,7 +24,9 @@ body-length-requires c κs =
     (p .lanes, p .few)
 
 returns-2 : tie.Need-returns-2
-returns-2 c = answered (c .before .before .before .measure-refusal .ensures) (yes-accepted (c .before)) (c .body-length .ensures)
+returns-2 c =
+    let e = c .before .before in
+    answered (e .before .before .measure-refusal .ensures) (yes-accepted e) (c .accepted .ensures) (c .before .body-length .ensures)
 
 pub measure-spec : {M : Type 1} → statement M
 measure-spec =
@@ -30,6 +34,8 @@ measure-spec =
     (tie.spec
     (search needs)
     (search needs)
+    (search needs)
     returns
     body-length-requires
+    (search needs)
     returns-2)

@@ -2,7 +2,7 @@
 use mathlib.Core.Path.{_≡_, sym, _∙_}
 use mathlib.Core.Bool.{true}
 use borrow.Author.Tests.{lt-ltb, le-ltb, not-true, not-false}
-use Rattle.blocks.specs.Calls.{isLanes}
+use Rattle.layout.specs.Layout.{isLanes}
 use Rattle.order.specs.Order.{starting, ordered}
 use Rattle.lists.specs.Calls.{measureRefusal}
 use borrow.Author.Needs.{needs}

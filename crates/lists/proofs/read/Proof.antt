@@ -3,8 +3,8 @@ use mathlib.Core.Path.{_≡_, refl, sym, _∙_}
 use mathlib.Core.Bool.{true}
 use borrow.Author.Tests.{not-true, not-false}
 use lib.ListN.{length}
-use Rattle.blocks.specs.Refusals.{accepted}
-use Rattle.blocks.proofs.Answers.{refused, untouched, answered, overwritten}
+use Rattle.answers.specs.Refusals.{accepted}
+use Rattle.answers.proofs.Answers.{refused, untouched, answered, overwritten}
 use Rattle.bodies.specs.Body.{blockCount}
 use Rattle.bodies.specs.Reading.{listOf}
 use Rattle.lists.proofs.Accepts.{Readable, read-exactly}
@@ -21,10 +21,11 @@ able c = read-exactly _ _ _ _ _ .0 (rw (c .before .before .read-refusal .ensures
 
 returns : tie.Need-returns
 returns c =
-    let k = c .before .before .read-refusal .ensures in
-    let h = sym (c .before .is-accepted .ensures) ∙ not-true _ (c .if1 .taken) in
-    let a = c .before .before .before .before .before .args in
-    (refused k h _, untouched k h (listOf (a .lanes) (a .mode) (a .count) (a .body .now)) _)
+    let t = c .before in
+    let k = t .before .before .read-refusal .ensures in
+    let h = sym (t .before .is-accepted .ensures) ∙ not-true _ (t .if1 .taken) in
+    let a = t .before .before .before .before .before .args in
+    (refused k h (c .refused .ensures) _, untouched k h (listOf (a .lanes) (a .mode) (a .count) (a .body .now)) _)
 
 fetch-body-requires : tie.Need-fetch-body-requires
 fetch-body-requires c κs =
@@ -34,11 +35,11 @@ fetch-body-requires c κs =
 
 returns-2 : tie.Need-returns-2
 returns-2 c =
-    let d = c .before .before in
+    let d = c .before .before .before in
     let e = d .before .before in
     let k = e .before .before .read-refusal .ensures in
     let a = e .before .before .before .before .before .args in
-    (answered k (yes-accepted e) refl, overwritten k (yes-accepted e) (listOf (a .lanes) (a .mode) (a .count) (a .body .now)) (a .values .now) (d .fetch-body .ensures))
+    (answered k (yes-accepted e) (c .accepted .ensures) refl, overwritten k (yes-accepted e) (listOf (a .lanes) (a .mode) (a .count) (a .body .now)) (a .values .now) (d .fetch-body .ensures))
 
 pub read-spec : {M : Type 1} → statement M
 read-spec =
@@ -46,7 +47,9 @@ read-spec =
     (tie.spec
     (search needs)
     (search needs)
+    (search needs)
     returns
     fetch-body-requires
+    (search needs)
     (search needs)
     returns-2)

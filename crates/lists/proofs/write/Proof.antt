@@ -3,8 +3,8 @@ use mathlib.Core.Path.{_≡_, sym, _∙_}
 use mathlib.Core.Bool.{true}
 use borrow.Author.Tests.{not-true, not-false}
 use lib.ListN.{length}
-use Rattle.blocks.specs.Refusals.{accepted}
-use Rattle.blocks.proofs.Answers.{refused, untouched, answered, overwritten}
+use Rattle.answers.specs.Refusals.{accepted}
+use Rattle.answers.proofs.Answers.{refused, untouched, answered, overwritten}
 use Rattle.bodies.specs.Body.{bodyOf}
 use Rattle.lists.proofs.Accepts.{Writable, write-exactly}
 use borrow.Author.Needs.{needs}
@@ -19,10 +19,11 @@ able c = write-exactly _ _ _ _ .0 (rw (c .before .before .write-refusal .ensures
 
 returns : tie.Need-returns
 returns c =
-    let k = c .before .before .write-refusal .ensures in
-    let h = sym (c .before .is-accepted .ensures) ∙ not-true _ (c .if1 .taken) in
-    let a = c .before .before .before .before .before .args in
-    (refused k h _, untouched k h (bodyOf (a .lanes) (a .mode) (a .values .now)) _)
+    let t = c .before in
+    let k = t .before .before .write-refusal .ensures in
+    let h = sym (t .before .is-accepted .ensures) ∙ not-true _ (t .if1 .taken) in
+    let a = t .before .before .before .before .before .args in
+    (refused k h (c .refused .ensures) _, untouched k h (bodyOf (a .lanes) (a .mode) (a .values .now)) _)
 
 store-body-requires : tie.Need-store-body-requires
 store-body-requires c κs =
@@ -31,11 +32,11 @@ store-body-requires c κs =
 
 returns-2 : tie.Need-returns-2
 returns-2 c =
-    let d = c .before .before in
+    let d = c .before .before .before in
     let e = d .before .before in
     let k = e .before .before .write-refusal .ensures in
     let a = e .before .before .before .before .before .args in
-    (answered k (yes-accepted e) (d .store-body .ensures .0), overwritten k (yes-accepted e) (bodyOf (a .lanes) (a .mode) (a .values .now)) (a .body .now) (d .store-body .ensures .1))
+    (answered k (yes-accepted e) (c .accepted .ensures) (d .store-body .ensures .0), overwritten k (yes-accepted e) (bodyOf (a .lanes) (a .mode) (a .values .now)) (a .body .now) (d .store-body .ensures .1))
 
 pub write-spec : {M : Type 1} → statement M
 write-spec =
@@ -43,7 +44,9 @@ write-spec =
     (tie.spec
     (search needs)
     (search needs)
+    (search needs)
     returns
     store-body-requires
+    (search needs)
     (search needs)
     returns-2)

@@ -2,8 +2,8 @@
 use mathlib.Core.Path.{_≡_, sym, _∙_, ap}
 use mathlib.Core.Bool.{true}
 use borrow.Author.Tests.{lt-ltb, le-ltb, not-true, not-false}
-use Rattle.blocks.specs.Refusals.{accepted}
-use Rattle.bodies.proofs.Tests.{first-stops}
+use Rattle.answers.specs.Refusals.{accepted}
+use Rattle.answers.proofs.Refusals.{first-stops}
 use Rattle.lists.specs.Calls.{measureRefusal}
 use Rattle.lists.proofs.Accepts.{measure-exactly}
 use borrow.Author.Needs.{needs}

@@ -4,9 +4,9 @@ use mathlib.Core.List.{List}
 use Prim.Native.Nat.{ℕ, zero, suc}
 use lib.ListN.{drop}
 use Rattle.modes.specs.declared.Mode.{Mode}
-use Rattle.blocks.specs.declared.refusal.Refusal.{Refusal}
-use Rattle.blocks.specs.declared.refusal.Refusal.the-variants.{Accepted}
-use Rattle.blocks.specs.Refusals.{accepted, orElse}
+use Rattle.answers.specs.declared.Refusal.{Refusal}
+use Rattle.answers.specs.declared.Refusal.the-variants.{Accepted}
+use Rattle.answers.specs.Refusals.{accepted, orElse}
 use Rattle.order.specs.Order.{afterAll}
 use Rattle.bodies.specs.Reading.{sizeAt, valuesAt, frameRefusal, blockRefusal}
 use Rattle.lists.specs.declared.check.Checked.{Checked}

@@ -4,7 +4,7 @@ use Prim.Native.Nat.{_≤_}
 use native.Mathlib.Omega.{arith}
 use lib.ListN.{length, take}
 use lib.Seq.{length-take-le}
-use Rattle.layout.proofs.Fronts.{take-over}
+use Rattle.answers.proofs.Fronts.{take-over}
 use Rattle.programs.specs.Lines.{valueLines}
 use Rattle.programs.proofs.ValueLines.{lines-short}
 use Rattle.programs.proofs.Outcomes.{out-is}

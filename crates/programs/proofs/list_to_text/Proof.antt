@@ -6,8 +6,8 @@ use native.Mathlib.Omega.{arith}
 use borrow.Author.Tests.{not-true, not-false}
 use lib.ListN.{length, take, replicate}
 use lib.Seq.{length-take-le}
-use Rattle.blocks.specs.declared.Answer.{Answer}
-use Rattle.blocks.specs.Refusals.{accepted}
+use Rattle.answers.specs.declared.Answer.{Answer}
+use Rattle.answers.specs.Refusals.{accepted}
 use Rattle.order.specs.Order.{most}
 use Rattle.files.specs.Calls.{listIn, readRefusalOf}
 use Rattle.programs.specs.Lines.{valueLines}

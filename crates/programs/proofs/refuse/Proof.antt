@@ -5,9 +5,9 @@ use Prim.Native.Nat.{ℕ}
 use native.Mathlib.Omega.{arith}
 use lib.ListN.{length, take, replicate}
 use lib.Seq.{length-take-le}
-use Rattle.layout.specs.Layout.{over}
-use Rattle.layout.proofs.Fronts.{take-over}
-use Rattle.blocks.specs.Refusals.{numberOf}
+use Rattle.answers.specs.Answers.{over}
+use Rattle.answers.proofs.Fronts.{take-over}
+use Rattle.answers.specs.Refusals.{numberOf}
 use Rattle.text.specs.Text.{word, decimal, line}
 use Rattle.text.proofs.Lines.{put-whole, number-line-short}
 use Rattle.programs.specs.Programs.{refusedLine}

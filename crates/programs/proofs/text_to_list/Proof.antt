@@ -6,7 +6,7 @@ use native.Mathlib.Omega.{arith}
 use borrow.Author.Tests.{not-true, not-false}
 use lib.ListN.{length, take, replicate}
 use lib.Seq.{length-take-le}
-use Rattle.blocks.specs.declared.refusal.Refusal.the-variants.{Accepted}
+use Rattle.answers.specs.declared.Refusal.the-variants.{Accepted}
 use Rattle.lists.specs.Calls.{measureRefusal}
 use Rattle.files.specs.declared.Packing.{Packing}
 use Rattle.files.specs.Opening.{isSettings, settingsIn}

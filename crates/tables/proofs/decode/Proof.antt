@@ -6,9 +6,10 @@ use native.Mathlib.Numerals.{add-one}
 use native.Mathlib.Omega.{arith}
 use lib.ListN.{length}
 use lib.Seq.{length-take-le}
-use Rattle.layout.specs.Layout.{at, table, over}
+use Rattle.layout.specs.Layout.{at, table}
+use Rattle.answers.specs.Answers.{over}
+use Rattle.answers.proofs.Fronts.{Front, front-none, front-length, front-put}
 use Rattle.layout.proofs.Tables.{length-table}
-use Rattle.layout.proofs.Fronts.{Front, front-none, front-length, front-put}
 use Rattle.tables.specs.Tables.{digitOf, hexByte}
 use borrow.Author.Needs.{needs}
 use Rattle.tables.proofs.decode.Statement.{statement}

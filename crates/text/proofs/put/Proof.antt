@@ -6,8 +6,8 @@ use native.Mathlib.Omega.{arith}
 use borrow.Author.Tests.{le-leb, lt-leb}
 use lib.ListN.{length, take}
 use lib.Seq.{take-all, length-take-le}
-use Rattle.layout.specs.Layout.{over}
-use Rattle.layout.proofs.Fronts.{take-more, Front, front-none, front-length, front-put}
+use Rattle.answers.specs.Answers.{over}
+use Rattle.answers.proofs.Fronts.{take-more, Front, front-none, front-length, front-put}
 use borrow.Author.Needs.{needs}
 use Rattle.text.proofs.put.Statement.{statement}
 use Rattle.text.proofs.put.Tie as tie

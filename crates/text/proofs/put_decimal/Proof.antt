@@ -3,7 +3,7 @@ use mathlib.Core.Path.{_≡_, sym, _∙_, ap}
 use native.Mathlib.Omega.{arith}
 use lib.ListN.{take, replicate}
 use lib.Seq.{length-take-le}
-use Rattle.layout.proofs.Fronts.{take-over}
+use Rattle.answers.proofs.Fronts.{take-over}
 use Rattle.text.specs.Text.{decimal}
 use Rattle.text.proofs.Decimals.{decimal-short}
 use borrow.Author.Needs.{needs}

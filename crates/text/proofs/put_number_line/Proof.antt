@@ -3,8 +3,8 @@ use mathlib.Core.Path.{_≡_, sym, _∙_, ap}
 use native.Mathlib.Omega.{arith}
 use lib.ListN.{length, take, replicate}
 use lib.Seq.{length-take-le}
-use Rattle.layout.proofs.Fronts.{take-over}
-use Rattle.layout.specs.Layout.{over}
+use Rattle.answers.proofs.Fronts.{take-over}
+use Rattle.answers.specs.Answers.{over}
 use Rattle.text.specs.Text.{decimal}
 use Rattle.text.proofs.Decimals.{decimal-short, fitted-all}
 use borrow.Author.Needs.{needs}

@@ -16,7 +16,7 @@ use Rattle.modes.proofs.Steps.{entries-row, last-start, last-next}
 use borrow.Author.Needs.{needs}
 use Rattle.blocks.proofs.least_width.accumulate.Statement.{statement}
 use Rattle.blocks.proofs.least_width.accumulate.Tie as tie
-use Rattle.layout.proofs.Parts.{part-at, part-length}
+use Rattle.answers.proofs.Parts.{part-at, part-length}
 
 abbrev Inv-loop : tie.InvT-loop
 Inv-loop lanes mode values previous₀ accumulator₀ row₀ previous accumulator row =

@@ -3,7 +3,7 @@ use mathlib.Core.Path.{sym, _∙_, ap}
 use mathlib.Core.List.{List, []}
 use Prim.Native.Nat.{ℕ}
 use lib.ListN.{length}
-use Rattle.layout.specs.Layout.{over}
+use Rattle.answers.specs.Answers.{over}
 use Rattle.modes.specs.declared.Initial.{Initial}
 use Rattle.text.specs.Text.{line}
 use Rattle.files.specs.Header.{initialText}

@@ -5,9 +5,9 @@ use Prim.Native.Nat.{ℕ, _+_, _-_, _≤_}
 use native.Mathlib.Omega.{arith}
 use lib.ListN.{length, set, length-append}
 use borrow.Rule.Slice.PartMut.{putMid}
-use Rattle.layout.specs.Layout.{over}
-use Rattle.layout.proofs.Parts.{part-length}
-use Rattle.layout.proofs.Fronts.{Front, front-length, front-put}
+use Rattle.answers.specs.Answers.{over}
+use Rattle.answers.proofs.Parts.{part-length}
+use Rattle.answers.proofs.Fronts.{Front, front-length, front-put}
 use Rattle.text.specs.Text.{word, decimal, line}
 use Rattle.files.specs.Header.{settings}
 use Rattle.files.proofs.Lines.{settings-short, header-are, one-length, two-length, Three, three}

@@ -5,8 +5,8 @@ use Prim.Native.Nat.{ℕ, _+_, _-_, _≤_}
 use native.Mathlib.Omega.{arith}
 use lib.ListN.{length}
 use borrow.Rule.Slice.PartMut.{putMid}
-use Rattle.layout.specs.Layout.{over}
-use Rattle.layout.proofs.Parts.{part-length}
+use Rattle.answers.specs.Answers.{over}
+use Rattle.answers.proofs.Parts.{part-length}
 use Rattle.text.specs.Text.{word, decimal, line}
 use Rattle.files.specs.Header.{modeWord, firstText, settings}
 use Rattle.files.proofs.Lines.{mode-line-short, first-line-short, settings-are, one-length, two-length, Three, three}

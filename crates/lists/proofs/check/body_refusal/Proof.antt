@@ -3,8 +3,8 @@ use mathlib.Core.Path.{_≡_, sym, _∙_}
 use mathlib.Core.Bool.{true}
 use native.Mathlib.Omega.{arith}
 use borrow.Author.Tests.{not-true, not-false}
-use Rattle.blocks.specs.Refusals.{accepted}
-use Rattle.blocks.proofs.Tests.{lanes-of}
+use Rattle.answers.specs.Refusals.{accepted}
+use Rattle.layout.proofs.LaneCounts.{lanes-of}
 use Rattle.lists.proofs.Checks.{Testing, testing-start, bytes-left, none-left, stops-here, width-there, width-narrow, block-within, testing-more}
 use borrow.Author.Needs.{needs}
 use Rattle.lists.proofs.check.body_refusal.Statement.{statement}

@@ -4,8 +4,8 @@ use mathlib.Core.Bool.{true}
 use native.Mathlib.Omega.{arith}
 use borrow.Author.Tests.{not-true, not-false}
 use lib.Seq.{length-take-le}
-use Rattle.blocks.specs.Refusals.{accepted}
-use Rattle.blocks.proofs.Tests.{lanes-of}
+use Rattle.answers.specs.Refusals.{accepted}
+use Rattle.layout.proofs.LaneCounts.{lanes-of}
 use Rattle.bodies.specs.Reading.{frameRefusal}
 use Rattle.bodies.proofs.Tests.{framed}
 use Rattle.lists.proofs.Checks.{no-frame, bad-entries, bad-order, good-block}

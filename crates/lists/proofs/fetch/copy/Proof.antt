@@ -5,11 +5,11 @@ use Prim.Native.Nat.{ℕ, _-_, _≤_}
 use lib.ListN.{length, take}
 use lib.Seq.{take-all, length-take-le}
 use native.Mathlib.Omega.{arith}
-use Rattle.layout.proofs.Fronts.{take-more, Front, front-none, front-length, front-put}
+use Rattle.answers.proofs.Fronts.{take-more, Front, front-none, front-length, front-put}
+use Rattle.answers.specs.Answers.{over}
 use borrow.Author.Needs.{needs}
 use Rattle.lists.proofs.fetch.copy.Statement.{statement}
 use Rattle.lists.proofs.fetch.copy.Tie as tie
-use Rattle.layout.specs.Layout.{over}
 
 abbrev Inv-loop : tie.InvT-loop
 Inv-loop source values₀ i₀ i-end values i = (i ≤ length source) × Front (take i source) values₀ values

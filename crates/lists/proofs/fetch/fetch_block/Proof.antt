@@ -1,7 +1,7 @@
 -- The whole block is unpacked in place, and its last value is the next block's previous.
 use mathlib.Core.Path.{_∙_}
 use native.Mathlib.Omega.{arith}
-use Rattle.blocks.proofs.Tests.{lanes-of}
+use Rattle.layout.proofs.LaneCounts.{lanes-of}
 use Rattle.bodies.proofs.Tests.{framed}
 use Rattle.lists.proofs.BlockCalls.{unpack-is}
 use Rattle.lists.proofs.Fetches.{last-value}

@@ -4,12 +4,12 @@ use Prim.Native.Nat.{_-_}
 use native.Mathlib.Omega.{arith}
 use lib.ListN.{length}
 use borrow.Rule.Slice.PartMut.{same-len-mid}
-use Rattle.blocks.proofs.Tests.{lanes-of}
+use Rattle.layout.proofs.LaneCounts.{lanes-of}
+use Rattle.answers.proofs.Parts.{part-length}
 use Rattle.lists.proofs.Fetches.{Fetching, fetching-start, out-length, next-framed, width-there, next-narrow, next-within, fetching-more, fetching-last, fetching-done}
 use borrow.Author.Needs.{needs}
 use Rattle.lists.proofs.fetch.fetch_body.Statement.{statement}
 use Rattle.lists.proofs.fetch.fetch_body.Tie as tie
-use Rattle.layout.proofs.Parts.{part-length}
 
 abbrev Inv-loop : tie.InvT-loop
 Inv-loop lanes count body values₀ running₀ place₀ done₀ values running place done = Fetching lanes running₀ count body values₀ running place done values

@@ -4,14 +4,14 @@ use mathlib.Core.List.{List}
 use native.Mathlib.Omega.{arith}
 use lib.ListN.{replicate}
 use lib.Seq.{length-take-le}
-use Rattle.blocks.proofs.Tests.{lanes-of}
+use Rattle.layout.proofs.LaneCounts.{lanes-of}
+use Rattle.answers.specs.Answers.{over}
 use Rattle.bodies.proofs.Tests.{framed}
 use Rattle.lists.proofs.BlockCalls.{unpack-is}
 use Rattle.lists.proofs.Fetches.{own-block}
 use borrow.Author.Needs.{needs}
 use Rattle.lists.proofs.fetch.fetch_last.Statement.{statement}
 use Rattle.lists.proofs.fetch.fetch_last.Tie as tie
-use Rattle.layout.specs.Layout.{over}
 
 sub-decompress : tie.Need-sub-decompress
 sub-decompress c = omega (arith, framed _ _ (c .before .before .pre .1) .some)

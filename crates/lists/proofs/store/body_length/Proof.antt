@@ -3,7 +3,7 @@ use mathlib.Core.Path.{sym, _∙_, ap}
 use Prim.Native.Nat.{_*_, _-_, _≤_, _<_}
 use native.Mathlib.Omega.{arith}
 use lib.ListN.{length}
-use Rattle.blocks.proofs.Tests.{lanes-of}
+use Rattle.layout.proofs.LaneCounts.{lanes-of}
 use Rattle.lists.proofs.Stores.{Stored, stored-none, stored-all, length-part, stored-more}
 use borrow.Author.Needs.{needs}
 use Rattle.lists.proofs.store.body_length.Statement.{statement}

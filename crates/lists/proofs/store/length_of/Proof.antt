@@ -1,7 +1,7 @@
 -- The width is that of the filled entries, and the length follows from it.
 use mathlib.Core.Path.{sym}
 use native.Mathlib.Omega.{arith}
-use Rattle.blocks.proofs.Tests.{lanes-of}
+use Rattle.layout.proofs.LaneCounts.{lanes-of}
 use Rattle.order.specs.Order.{entriesOf}
 use Rattle.lists.proofs.BlockCalls.{size-small}
 use Rattle.lists.proofs.Stores.{Own, own-of, own-length, block-length, width-narrow, length-of}

@@ -5,7 +5,7 @@ use Prim.Native.Nat.{ℕ, _-_, _%_}
 use native.Mathlib.Omega.{arith}
 use lib.ListN.{length, set, length-set}
 use borrow.Rule.Slice.PartMut.{same-len-mid}
-use Rattle.blocks.proofs.Tests.{lanes-of}
+use Rattle.layout.proofs.LaneCounts.{lanes-of}
 use Rattle.order.specs.Order.{entriesOf}
 use Rattle.lists.proofs.Stores.{Own, own-of, own-length, block-length, width-narrow, length-of, store-is, some-room}
 use borrow.Author.Needs.{needs}

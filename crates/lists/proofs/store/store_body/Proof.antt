@@ -2,7 +2,7 @@
 use Prim.Native.Nat.{_-_, _≤_, _<_}
 use native.Mathlib.Omega.{arith}
 use lib.ListN.{length}
-use Rattle.blocks.proofs.Tests.{lanes-of}
+use Rattle.layout.proofs.LaneCounts.{lanes-of}
 use Rattle.lists.proofs.Stores.{Storing, storing-none, storing-length, storing-within, storing-more, storing-all, length-part, block-room, block-within}
 use borrow.Author.Needs.{needs}
 use Rattle.lists.proofs.store.store_body.Statement.{statement}

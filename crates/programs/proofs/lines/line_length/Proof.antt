@@ -6,8 +6,8 @@ use native.Mathlib.Omega.{arith}
 use borrow.Author.Tests.{not-true, not-false}
 use lib.ListN.{length, take, replicate}
 use lib.Seq.{length-take-le}
-use Rattle.layout.specs.Layout.{over}
-use Rattle.layout.proofs.Fronts.{take-over}
+use Rattle.answers.specs.Answers.{over}
+use Rattle.answers.proofs.Fronts.{take-over}
 use Rattle.text.specs.Text.{word, begins}
 use Rattle.text.proofs.Lines.{put-whole, number-line-short}
 use Rattle.programs.specs.Lines.{valueLine}

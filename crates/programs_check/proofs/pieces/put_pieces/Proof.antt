@@ -6,7 +6,7 @@ use native.Mathlib.Omega.{arith}
 use lib.ListN.{length}
 use borrow.Rule.Slice.PartMut.{same-len-mid}
 use borrow.Author.Needs.{needs}
-use Rattle.layout.proofs.Parts.{part-length}
+use Rattle.answers.proofs.Parts.{part-length}
 use Rattle.programs_check.proofs.pieces.put_pieces.Statement.{statement}
 use Rattle.programs_check.proofs.pieces.put_pieces.Tie as tie
 

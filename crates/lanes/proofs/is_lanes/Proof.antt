@@ -1,8 +1,8 @@
 -- 1, 4 and 8 are told apart one after another.
 use borrow.Author.Tests.{eq-eqb, ne-eqb}
-use Rattle.blocks.specs.Calls.{isLanes}
-use Rattle.blocks.proofs.is_lanes.Statement.{statement}
-use Rattle.blocks.proofs.is_lanes.Tie as tie
+use Rattle.layout.specs.Layout.{isLanes}
+use Rattle.lanes.proofs.is_lanes.Statement.{statement}
+use Rattle.lanes.proofs.is_lanes.Tie as tie
 
 returns : tie.Need-returns
 unfolding isLanes

@@ -4,14 +4,14 @@ use mathlib.Core.List.{List, [], _∷_, _++_, append-assoc, append-nil}
 use Prim.Native.Nat.{ℕ, _+_, _-_, _≤_, _<_}
 use native.Mathlib.Numerals.{add-one}
 use native.Mathlib.Omega.{arith}
-use lib.ListN.{length, set, take, drop, length-append, length-drop}
+use lib.ListN.{length, getD, set, take, drop, length-append, length-drop}
 use lib.Seq.{take-suc, drop-cons, set-at, take-at, drop-at, drop-drop, drop-length}
 use borrow.Rule.Slice.PartMut.{midOf, postOf, putMid, post-is}
-use Rattle.layout.specs.Layout.{at, over}
-use Rattle.layout.proofs.Parts.{part-is}
+use Rattle.answers.specs.Answers.{over}
+use Rattle.answers.proofs.Parts.{part-is}
 
 -- one number more of a list
-pub take-more : (xs : List ℕ) (i : ℕ) → i < length xs → take (i + 1) xs ≡ take i xs ++ (at xs i ∷ [])
+pub take-more : (xs : List ℕ) (i : ℕ) → i < length xs → take (i + 1) xs ≡ take i xs ++ (getD xs i 0 ∷ [])
 take-more xs i lt = rw add-one (take-suc xs i 0 lt)
 
 -- ws stands at the front of out, and `before` behind it
@@ -39,12 +39,12 @@ module _ {ws before out : List ℕ} (f : Front ws before out) (done : ℕ) (is :
   pub front-put : (v : ℕ) → done < length before → Front (ws ++ (v ∷ [])) before (set out done v)
   front-put v lt =
       let len : length (ws ++ (v ∷ [])) ≡ done + 1 = length-append ws (v ∷ []) ∙ ap (λ (t : ℕ). t + 1) is in
-      let e : drop done before ≡ at before done ∷ drop (done + 1) before = rw add-one (drop-cons before done 0 lt) in
+      let e : drop done before ≡ getD before done 0 ∷ drop (done + 1) before = rw add-one (drop-cons before done 0 lt) in
       record {
         fits = rw len (omega arith);
         here =
             ap (λ (t : List ℕ). set t done v) (f .here ∙ ap (λ (t : List ℕ). ws ++ t) (ap (λ (t : ℕ). drop t before) is ∙ e))
-            ∙ set-at ws (at before done) (drop (done + 1) before) v done is
+            ∙ set-at ws (getD before done 0) (drop (done + 1) before) v done is
             ∙ sym (append-assoc ws (v ∷ []) (drop (done + 1) before)) ∙ ap (λ (t : ℕ). (ws ++ (v ∷ [])) ++ drop t before) (sym len);
       }
 

@@ -1,6 +1,8 @@
-// The numbers of refusal of document 01, by their names.
+// The numbers of refusal of document 01, by their names, and what a call answers. Every call of the project stands on this.
 ghost use mathlib.Core.Path.{_≡_};
-ghost use Rattle.blocks.specs.Refusals.{numberOf, accepted};
+ghost use Rattle.answers.specs.declared.Refusal.the-variants.{Accepted};
+ghost use Rattle.answers.specs.Refusals.{numberOf, accepted};
+ghost use Rattle.answers.specs.Answers.{answer};
 
 pub enum Refusal {
     // 0: nothing is refused
@@ -56,6 +58,31 @@ impl Refusal {
             Refusal::BadFill => 10,
             Refusal::LeftOver => 11,
             Refusal::BadHeader => 12,
+        }
+    }
+}
+
+// The refusal and a length, 0 where it is refused: of a payload, a body or a file in bytes, of a list that is read its count of values.
+pub struct Answer {
+    pub refusal: Refusal,
+    pub length: usize,
+}
+
+impl Answer {
+    // The refusal, and length 0.
+    pub fn refused(refusal: Refusal) -> Answer
+        ensures { λ r. ⌜ r ≡ answer refusal 0 ⌝ }
+    {
+        Answer { refusal, length: 0 }
+    }
+
+    // Nothing is refused, and there is a length.
+    pub fn accepted(length: usize) -> Answer
+        ensures { λ r. ⌜ r ≡ answer Accepted length ⌝ }
+    {
+        Answer {
+            refusal: Refusal::Accepted,
+            length,
         }
     }
 }

@@ -3,8 +3,8 @@ use mathlib.Core.Path.{ap}
 use Prim.Native.Nat.{ℕ}
 use lib.Dec.{eqb}
 use borrow.Author.Needs.{needs}
-use Rattle.blocks.proofs.refusal.Refusal.is_accepted.Statement.{statement}
-use Rattle.blocks.proofs.refusal.Refusal.is_accepted.Tie as tie
+use Rattle.answers.proofs.Refusal.is_accepted.Statement.{statement}
+use Rattle.answers.proofs.Refusal.is_accepted.Tie as tie
 
 returns : tie.Need-returns
 returns c = ap (λ (t : ℕ). eqb t 0) (c .number .ensures)

@@ -3,10 +3,9 @@ use mathlib.Core.Path.{_≡_, _∙_, ap}
 use mathlib.Core.List.{List}
 use Prim.Native.Nat.{ℕ, _+_, _-_}
 use native.Mathlib.Nat.{le-refl}
-use lib.ListN.{length, drop, length-drop}
+use lib.ListN.{length, getD, drop, length-drop}
 use lib.Seq.{take-all, getD-drop}
 use borrow.Rule.Slice.PartMut.{midOf}
-use Rattle.layout.specs.Layout.{at}
 
 -- the part is what is left of the list
 pub part-is : (a : ℕ) (xs : List ℕ) → midOf a (length xs - a) xs ≡ drop a xs
@@ -16,5 +15,5 @@ pub part-length : (a : ℕ) (xs : List ℕ) → length (midOf a (length xs - a) 
 part-length a xs = ap length (part-is a xs) ∙ length-drop a xs
 
 -- element k of the part is element a + k of the list
-pub part-at : (a : ℕ) (xs : List ℕ) (k : ℕ) → at (midOf a (length xs - a) xs) k ≡ at xs (a + k)
+pub part-at : (a : ℕ) (xs : List ℕ) (k : ℕ) → getD (midOf a (length xs - a) xs) k 0 ≡ getD xs (a + k) 0
 part-at a xs k = rw (part-is a xs) (getD-drop a xs k 0)

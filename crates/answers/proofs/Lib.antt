@@ -1,0 +1,6 @@
+pub mod Refusals
+pub mod Answers
+pub mod Parts
+pub mod Fronts
+pub mod Contracts
+pub mod Determined

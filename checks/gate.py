@@ -1,7 +1,8 @@
 #!/usr/bin/env python3
-"""Makes docs/GATE.md from what a whole run of the gate printed.
+"""Makes docs/GATE.md, the whole of it, from what a run of the gate printed. What is to be said of it by hand stands in docs/DECISIONS.md,
+"The gate".
 
-    ( time rt ci ) > gate.log 2>&1
+    ( time .ci/run ) > gate.log 2>&1
     python3 checks/gate.py gate.log > docs/GATE.md
 """
 import re
@@ -16,10 +17,11 @@ USER = re.compile(r"^user\s+(\d+)m([\d.]+)s$", re.M)
 
 PAGE = """# The gate's time
 
-From one whole run on two cores, with nothing beside it: {last}, {real} by the clock, {user} of processor time. The whole is to stay
-under 15 minutes, and a crate under 90 seconds. Two checks run at a time, so a crate's time depends a little on what runs beside it.
+From one whole run on two cores: {last}, {real} by the clock, {user} of processor time. The whole is to stay under 12 minutes on two quiet
+cores, and a crate under 60 seconds. Two checks run at a time, so a crate's time depends a little on what runs beside it. A script makes
+this page; docs/DECISIONS.md, "The gate", says what was left out of it, and why.
 
-    ( time rt ci ) > gate.log 2>&1
+    ( time .ci/run ) > gate.log 2>&1
     python3 checks/gate.py gate.log > docs/GATE.md
 
 | Crate | Check, s | Edits | Edits, s in all | Slowest edit, s |

@@ -14,7 +14,8 @@ use Rattle.layout.specs.Layout.{at, Below, blockSize, payloadSize, packed}
 use Rattle.layout.proofs.Below.{below-drop, below-table, table-past}
 use Rattle.layout.proofs.Tables.{table-at, table-of, table-ext, length-packed}
 use Rattle.layout.proofs.RoundTrip.{entry-fits, entry-packed, packed-entry, packed-ext}
-use Rattle.layout.proofs.Widths.{Fit, fits-of, of-fits, width-least, width-small, width-ext}
+use Rattle.layout.proofs.Widths.{fits-of, of-fits, width-least, width-small, width-ext}
+use Rattle.layout.specs.Claims.{Fit}
 use Rattle.modes.specs.declared.Mode.{Mode}
 use Rattle.order.specs.Order.{ordered, valuesOf}
 use Rattle.bodies.specs.Body.{filled, widthOf, block}

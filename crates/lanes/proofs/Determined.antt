@@ -19,10 +19,10 @@ use Rattle.lanes.proofs.scalar.op_and.Reads as op-and
 use Rattle.lanes.proofs.scalar.op_and.Kinds as op-and-kinds
 use Rattle.lanes.proofs.scalar.or_collapse_to_u32.Reads as or-collapse-to-u32
 use Rattle.lanes.proofs.scalar.or_collapse_to_u32.Kinds as or-collapse-to-u32-kinds
-use Rattle.lanes.proofs.scalar.wrapping_add.Reads as wrapping-add
-use Rattle.lanes.proofs.scalar.wrapping_add.Kinds as wrapping-add-kinds
-use Rattle.lanes.proofs.scalar.wrapping_sub.Reads as wrapping-sub
-use Rattle.lanes.proofs.scalar.wrapping_sub.Kinds as wrapping-sub-kinds
+use Rattle.lanes.proofs.sums.wrapping_add.Reads as wrapping-add
+use Rattle.lanes.proofs.sums.wrapping_add.Kinds as wrapping-add-kinds
+use Rattle.lanes.proofs.sums.wrapping_sub.Reads as wrapping-sub
+use Rattle.lanes.proofs.sums.wrapping_sub.Kinds as wrapping-sub-kinds
 use Rattle.lanes.proofs.scalar.add.Reads as add
 use Rattle.lanes.proofs.scalar.add.Kinds as add-kinds
 use Rattle.lanes.proofs.scalar.sub.Reads as sub

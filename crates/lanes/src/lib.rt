@@ -4,6 +4,7 @@ ghost use Rattle.layout.specs.Layout.{isLanes};
 ghost use Rattle.layout.specs.Width.{significant};
 
 pub mod scalar;
+pub mod sums;
 
 // Whether a block may have so many lanes: 1, 4 or 8.
 pub fn is_lanes(lanes: usize) -> bool

@@ -1,4 +1,6 @@
 // The operations on a row. The Rust's `DataType` is an array of eight numbers by value, of which a block of L lanes uses the first L.
+use crate::sums::wrapping_add;
+use crate::sums::wrapping_sub;
 ghost use mathlib.Core.Path.{_≡_};
 ghost use Prim.Native.Nat.{_*_, _/_, _%_, _^_, min};
 ghost use lib.Bits.{bitOr, bitAnd};
@@ -104,18 +106,6 @@ pub fn or_collapse_to_u32(accumulator: [u32; 8], lanes: usize) -> u32
         all = all | accumulator[l];
     }
     all
-}
-
-pub fn wrapping_add(a: u32, b: u32) -> u32
-    ensures { λ r. ⌜ r ≡ plus a b ⌝ }
-{
-    std::num::wrapping_add_u32(a, b)
-}
-
-pub fn wrapping_sub(a: u32, b: u32) -> u32
-    ensures { λ r. ⌜ r ≡ minus a b ⌝ }
-{
-    std::num::wrapping_sub_u32(a, b)
 }
 
 fn last_lane(row: [u32; 8], lanes: usize) -> u32

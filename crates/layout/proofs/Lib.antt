@@ -8,3 +8,4 @@ pub mod Joined
 pub mod Widths
 pub mod Below
 pub mod LaneCounts
+pub mod Claims

@@ -11,12 +11,9 @@ use lib.Dec.{ltb}
 use lib.Pow.{pow-pos, pow-mono}
 use lib.Bits.{bitOr, or-lt, or-comm, or-add-and, and-le-r}
 use lib.Count.{leadingZeros, leading-top}
+use Rattle.layout.specs.Claims.{Fit, Least}
 use Rattle.layout.specs.Width.{fits, leastFrom, leastWidth, significant, orAll}
 use Rattle.layout.proofs.Products.{below-mul, factor-pos}
-
--- e 0, .., e (m - 1) are below 2 to the power n
-abbrev pub Fit : (ℕ → ℕ) → ℕ → ℕ → Type 0
-Fit e m n = (k : ℕ) → k < m → e k < 2 ^ n
 
 pub and-both : (a b : Bool) → a && b ≡ true → (a ≡ true) × (b ≡ true)
 and-both true b h = (refl, h)
@@ -74,11 +71,6 @@ least-most e m n (suc more) = go (fits e m n) (least-most e m (suc n) more)
 pub width-most : (e : ℕ → ℕ) (m : ℕ) → leastWidth e m ≤ 32
 unfolding leastWidth
 width-most e m = least-most e m 0 32
-
--- n is the least width that e 0, .., e (m - 1) fit
-pub record Least (e : ℕ → ℕ) (m n : ℕ) : Type 0 where
-  pub fit : Fit e m n
-  pub least : (j : ℕ) → Fit e m j → n ≤ j
 
 pub least-unique : {e : ℕ → ℕ} {m a b : ℕ} → Least e m a → Least e m b → a ≡ b
 least-unique {e} {m} {a} {b} p q = omega (arith, p .least b (q .fit), q .least a (p .fit))

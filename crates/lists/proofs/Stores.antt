@@ -17,7 +17,8 @@ use Rattle.answers.proofs.Fronts.{Front, front-none, front-length, front-put, f
 use Rattle.answers.proofs.Parts.{part-length}
 use Rattle.layout.proofs.Tables.{length-packed}
 use Rattle.layout.proofs.RoundTrip.{packed-ext}
-use Rattle.layout.proofs.Widths.{Fit, fits-of, width-least, width-small, width-ext}
+use Rattle.layout.proofs.Widths.{fits-of, width-least, width-small, width-ext}
+use Rattle.layout.specs.Claims.{Fit}
 use Rattle.modes.specs.declared.Mode.{Mode}
 use Rattle.modes.specs.declared.Mode.the-variants.{Plain}
 use Rattle.blocks.specs.declared.Width.{Width}

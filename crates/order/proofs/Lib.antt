@@ -3,3 +3,4 @@ pub mod Beginnings
 pub mod Going
 pub mod Blockwise
 pub mod Determined
+pub mod Claims

@@ -1,6 +1,6 @@
 // The mode's order, step by step: what may come next, and the mode past it.
-use lanes::scalar::wrapping_add;
-use lanes::scalar::wrapping_sub;
+use lanes::sums::wrapping_add;
+use lanes::sums::wrapping_sub;
 use modes::Initial;
 use modes::Mode;
 use modes::initial_value;

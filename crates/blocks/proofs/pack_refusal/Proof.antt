@@ -6,7 +6,8 @@ use native.Mathlib.Omega.{arith}
 use borrow.Author.Tests.{lt-ltb, le-ltb, eq-eqb, ne-eqb, not-true, not-false}
 use lib.ListN.{length}
 use Rattle.layout.specs.Layout.{at, blockSize, payloadSize, isLanes}
-use Rattle.layout.proofs.Widths.{Fit, fits-exactly, fits-not}
+use Rattle.layout.proofs.Widths.{fits-exactly, fits-not}
+use Rattle.layout.specs.Claims.{Fit}
 use Rattle.modes.specs.Entries.{entries}
 use Rattle.modes.proofs.Undo.{entries-small}
 use Rattle.layout.proofs.LaneCounts.{lanes-of}

@@ -4,7 +4,8 @@ use Prim.Native.Nat.{_-_}
 use lib.ListN.{length}
 use native.Mathlib.Omega.{arith}
 use Rattle.layout.specs.Layout.{at}
-use Rattle.layout.proofs.Widths.{Fit, fit-more, fits-of, fits-fails}
+use Rattle.layout.proofs.Widths.{fit-more, fits-of, fits-fails}
+use Rattle.layout.specs.Claims.{Fit}
 use borrow.Author.Needs.{needs}
 use Rattle.lists.proofs.check.zeros.Statement.{statement}
 use Rattle.lists.proofs.check.zeros.Tie as tie

@@ -1,0 +1,33 @@
+-- What is claimed of the order: document 01's sentences, place by place, and that `ordered` tells it (proofs/Claims, order-tells).
+use mathlib.Core.Path.{_≡_}
+use mathlib.Core.Bool.{true}
+use mathlib.Core.Logic.{_↔_}
+use mathlib.Core.List.{List}
+use Prim.Native.Nat.{ℕ, suc, _≤_, _<_}
+use lib.ListN.{length}
+use Rattle.layout.specs.Layout.{at}
+use Rattle.modes.specs.declared.Initial.the-variants.{None, Number}
+use Rattle.modes.specs.declared.Mode.{Mode}
+use Rattle.modes.specs.declared.Mode.the-variants.{Plain, Sorted, Strict}
+use Rattle.order.specs.Order.{ordered}
+
+-- "In sorted mode each is at least the one before, in strict mode greater .. Plain has no order." v stands behind u.
+abbrev pub Follows : Mode → ℕ → ℕ → Type 0
+Follows Plain u v = Unit {0}
+Follows (Sorted f) u v = u ≤ v
+Follows (Strict i) u v = u < v
+
+-- "the first is measured against the first number"; strict with none puts no bound on it
+abbrev pub First : Mode → ℕ → Type 0
+First Plain v = Unit {0}
+First (Sorted f) v = f ≤ v
+First (Strict None) v = Unit {0}
+First (Strict (Number f)) v = f < v
+
+pub record InOrder (m : Mode) (vs : List ℕ) : Type 0 where
+  pub first : 0 < length vs → First m (at vs 0)
+  pub each : (i : ℕ) → suc i < length vs → Follows m (at vs i) (at vs (suc i))
+
+-- `ordered` tells it. A list is in the order of the mode that it starts with (`IsList`, `starting`).
+abbrev pub OrderTells : Type 0
+OrderTells = (m : Mode) (vs : List ℕ) → (ordered m vs ≡ true) ↔ InOrder m vs

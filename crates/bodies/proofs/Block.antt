@@ -9,10 +9,10 @@ use native.Mathlib.Omega.{arith}
 use native.Mathlib.Decide.{decLt}
 use lib.ListN.{length, take, drop, length-append, length-drop, List·getD-eq-default, take-append-drop}
 use lib.Pow.{pow-mono}
-use lib.Seq.{drop-at}
+use lib.Seq.{drop-at, take-append-add}
 use Rattle.layout.specs.Layout.{at, Below, blockSize, payloadSize, packed}
 use Rattle.layout.proofs.Below.{below-drop, below-table, table-past}
-use Rattle.layout.proofs.Tables.{table-at, table-of, table-ext, length-packed}
+use Rattle.layout.proofs.Tables.{table-at, table-of, table-ext, length-table, length-packed}
 use Rattle.layout.proofs.RoundTrip.{entry-fits, entry-packed, packed-entry, packed-ext}
 use Rattle.layout.proofs.Widths.{fits-of, of-fits, width-least, width-small, width-ext}
 use Rattle.layout.specs.Claims.{Fit}
@@ -59,6 +59,17 @@ module _ (L : ℕ) (m : Mode) (k : ℕ) (bs : List ℕ) (p : Passed L m k bs) wh
       block-split [] n h = absurd (omega arith)
       block-split (x ∷ xs) n h = rw one-add (ap (λ (t : List ℕ). x ∷ t) (take-append-drop n xs))
 
+  block-size : length (block L (entriesAt L k bs)) ≡ sizeAt L bs
+  unfolding block
+  block-size = rw (length-packed L (widthOf L (entriesAt L k bs)) (filled (entriesAt L k bs)), width-same) (omega arith)
+
+  -- it, and the n bytes behind it
+  pub front-written : Below 256 bs → (n : ℕ) → take (sizeAt L bs + n) bs ≡ block L (entriesAt L k bs) ++ take n (drop (sizeAt L bs) bs)
+  front-written bytes n =
+      let first : List ℕ = block L (entriesAt L k bs) in
+      let rest : List ℕ = drop (sizeAt L bs) bs in
+      ap (take (sizeAt L bs + n)) (block-written bytes) ∙ ap (λ (t : ℕ). take (t + n) (first ++ rest)) (sym block-size) ∙ take-append-add first rest n
+
 -- what is written passes, and its entries are had back, whatever stands behind it
 
 module _ (L : ℕ) (es rest : List ℕ) (size : length es ≤ blockSize L) (small : Below (2 ^ 32) es) where
@@ -93,3 +104,22 @@ module _ (L : ℕ) (es rest : List ℕ) (size : length es ≤ blockSize L) (smal
         };
         order = rw entries-back o;
       }
+
+-- another list of bytes that begins with the same block
+pub record Again (L : ℕ) (m : Mode) (k : ℕ) (bs others rest : List ℕ) : Type 0 where
+  pub passes : Passed L m k others
+  pub entries : entriesAt L k others ≡ entriesAt L k bs
+  pub behind : drop (sizeAt L others) others ≡ rest
+
+pub again : (L : ℕ) (m : Mode) (k : ℕ) (bs others rest : List ℕ) → k ≤ blockSize L → Passed L m k bs → others ≡ block L (entriesAt L k bs) ++ rest → Again L m k bs others rest
+again L m k bs others rest size p is =
+    let es : List ℕ = entriesAt L k bs in
+    let len : length es ≡ k = length-table (entryAt L bs) k in
+    let fits : length es ≤ blockSize L = omega arith in
+    let small : Below (2 ^ 32) es = entries-small L m k bs p in
+    rw is
+    (record {
+      passes = rw len at (written-passes L es rest fits small m (p .order));
+      entries = rw len at (entries-back L es rest fits small);
+      behind = rest-back L es rest fits small;
+    })

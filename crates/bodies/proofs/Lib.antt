@@ -4,3 +4,5 @@ pub mod Whole
 pub mod Onward
 pub mod Sizes
 pub mod Numbers
+pub mod Stops
+pub mod Kept

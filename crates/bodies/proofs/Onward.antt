@@ -1,20 +1,19 @@
 -- Block by block: what a body, its refusal and its list are, is what its first block is and the same of the rest.
 use mathlib.Core.Path.{_≡_, sym, _∙_, ap}
 use mathlib.Core.List.{List, [], _++_}
-use Prim.Native.Nat.{ℕ, suc, _+_, _-_, _/_, _≤_, _<_, min}
-use native.Mathlib.Nat.{div-eq-of-lt, add-div-right}
+use Prim.Native.Nat.{ℕ, zero, suc, _+_, _*_, _-_, _/_, _≤_, _<_, min}
+use native.Mathlib.Nat.{zero-mul, min-zero, div-eq-of-lt, add-div-right}
 use native.Mathlib.Numerals.{add-one}
 use native.Mathlib.Omega.{arith}
 use native.Mathlib.Decide.{decLt}
 use lib.ListN.{length, take, drop, length-drop, length-take, take-append-drop}
 use Rattle.layout.specs.Layout.{blockSize}
-use Rattle.answers.specs.Refusals.{orElse}
 use Rattle.modes.specs.declared.Mode.{Mode}
 use Rattle.order.specs.Order.{afterAll, entriesOf, valuesOf}
 use Rattle.order.proofs.Steps.{length-entries, entries-append, values-append}
 use Rattle.bodies.specs.Body.{block, blockCount, blocksOf, bodyOf}
-use Rattle.bodies.specs.Reading.{sizeAt, entriesAt, valuesAt, blockRefusal, refusalFrom, bodyRefusal, entriesFrom, listOf}
-use Rattle.bodies.proofs.Whole.{front}
+use Rattle.bodies.specs.Reading.{sizeAt, entriesAt, valuesAt, entriesFrom, listOf}
+use Rattle.bodies.proofs.Whole.{front, suc-times}
 
 module _ (L : ℕ) (lanes : 0 < L) where
   pub blocks-none : blockCount L 0 ≡ 0
@@ -40,6 +39,24 @@ module _ (L : ℕ) (lanes : 0 < L) where
       go (yes lt) = one count (blockSize L) pos lt
       go (no ge) = more count (blockSize L) (omega arith) (omega arith)
 
+  blocks-some : (count : ℕ) → 0 < blockCount L count → 0 < count
+  blocks-some count h = go (decLt 0 count)
+    where
+      go : Dec (0 < count) → 0 < count
+      go (yes pos) = pos
+      go (no none) =
+          let z : count ≡ 0 = omega arith in
+          absurd (omega (arith, ap (blockCount L) z, blocks-none))
+
+  -- the first j blocks hold j B values, or all
+  pub blocks-first : (j count : ℕ) → j ≤ blockCount L count → blockCount L (min count (j * blockSize L)) ≡ j
+  blocks-first zero count h = rw (zero-mul (blockSize L), min-zero count) blocks-none
+  blocks-first (suc j) count h =
+      let pos : 0 < count = blocks-some count (omega arith) in
+      let less : min count (suc j * blockSize L) - blockSize L ≡ min (count - blockSize L) (j * blockSize L) = omega (arith, suc-times j (blockSize L)) in
+      let ih = blocks-first j (count - blockSize L) (omega (arith, blocks-next count pos)) in
+      blocks-next (min count (suc j * blockSize L)) (omega (arith, suc-times j (blockSize L))) ∙ rw (less, ih)
+
   -- the body
 
   pub body-none : (m : Mode) (vs : List ℕ) → length vs ≡ 0 → bodyOf L m vs ≡ []
@@ -58,14 +75,6 @@ module _ (L : ℕ) (lanes : 0 < L) where
   body-next m vs pos =
       let s = split-entries (blockSize L) m vs in
       rw (blocks-next (length vs) pos, length-drop, s .0, s .1)
-
-  -- its refusal
-
-  pub refusal-next : (m : Mode) (count : ℕ) (bs : List ℕ) → 0 < count
-      → bodyRefusal L m count bs
-      ≡ orElse (blockRefusal L m (min (blockSize L) count) bs) (bodyRefusal L (afterAll m (valuesAt L m (min (blockSize L) count) bs)) (count - blockSize L) (drop (sizeAt L bs) bs))
-  unfolding refusalFrom
-  refusal-next m count bs pos = rw (blocks-next count pos)
 
   -- the list that is read
 

@@ -1,19 +1,18 @@
 -- What the tests of a block say where none refuses.
-use mathlib.Core.Path.{_≡_, refl, sym, _∙_}
-use mathlib.Core.Bool.{Bool, true, false}
+use mathlib.Core.Path.{_≡_, refl}
+use mathlib.Core.Bool.{true, false}
 use mathlib.Core.List.{List}
-use Prim.Native.Nat.{ℕ, _+_, _-_, _≤_}
+use Prim.Native.Nat.{ℕ, suc, _+_, _-_, _≤_, min}
 use borrow.Author.Tests.{ltb-false, le-ltb, eqb-true, eq-eqb, not-false}
 use lib.ListN.{length}
 use Rattle.layout.specs.Layout.{blockSize}
 use Rattle.layout.specs.Width.{fits, leastWidth}
 use Rattle.modes.specs.declared.Mode.{Mode}
-use Rattle.answers.specs.declared.Refusal.{Refusal}
 use Rattle.answers.specs.declared.Refusal.the-variants.{Accepted, BadWidth, CutShort, OutOfOrder, NotLeast, BadFill}
-use Rattle.answers.specs.Refusals.{accepted, orElse}
-use Rattle.answers.proofs.Refusals.{passed, both}
+use Rattle.answers.specs.Refusals.{accepted}
+use Rattle.answers.proofs.Refusals.{passed, both, first-stops}
 use Rattle.order.specs.Order.{ordered}
-use Rattle.bodies.specs.Reading.{widthAt, sizeAt, entryAt, valuesAt, frameRefusal, entriesRefusal, shapeRefusal, blockRefusal}
+use Rattle.bodies.specs.Reading.{widthAt, sizeAt, entryAt, valuesAt, frameRefusal, entriesRefusal, shapeRefusal, blockRefusal, refusalFrom}
 
 -- a block stands there
 pub record Framed (L : ℕ) (bs : List ℕ) : Type 0 where
@@ -32,6 +31,17 @@ framed L bs h =
 pub frames : (L : ℕ) (bs : List ℕ) → Framed L bs → accepted (frameRefusal L bs) ≡ true
 unfolding frameRefusal
 frames L bs f = rw (le-ltb (length bs) 1 (f .some), le-ltb 32 (widthAt bs) (f .narrow), le-ltb (length bs) (sizeAt L bs) (f .whole))
+
+-- "10, 9": filling that is not 0 is told before the width
+pub fill-first : (L k n : ℕ) (e : ℕ → ℕ) → fits (λ i. e (k + i)) (blockSize L - k) 0 ≡ false → entriesRefusal L k n e ≡ BadFill
+unfolding entriesRefusal
+fill-first L k n e h = rw h
+
+-- "block by block": what a block is refused for is told before the blocks behind it are looked at
+pub block-first : (L : ℕ) (m : Mode) (count : ℕ) (bs : List ℕ) (b : ℕ) → accepted (blockRefusal L m (min (blockSize L) count) bs) ≡ false
+    → refusalFrom L m count bs (suc b) ≡ blockRefusal L m (min (blockSize L) count) bs
+unfolding refusalFrom
+block-first L m count bs b h = first-stops (blockRefusal L m (min (blockSize L) count) bs) _ h
 
 -- its entries are as they are written
 pub record Kept (L k n : ℕ) (e : ℕ → ℕ) : Type 0 where

@@ -57,9 +57,13 @@ valuesRefusal m vs = refuse (not (ordered m vs)) OutOfOrder Accepted
 unfoldable pub blockRefusal : ℕ → Mode → ℕ → List ℕ → Refusal
 blockRefusal L m k bs = orElse (shapeRefusal L k bs) (valuesRefusal m (valuesAt L m k bs))
 
--- "then block by block ..; at the end 11": the b blocks that are left, which hold the count values that are left
+-- "at the end 11": what stands behind the last block
+abbrev pub endRefusal : List ℕ → Refusal
+endRefusal bs = refuse (ltb 0 (length bs)) LeftOver Accepted
+
+-- "then block by block ..": the b blocks that are left, which hold the count values that are left
 unfoldable pub refusalFrom : ℕ → Mode → ℕ → List ℕ → ℕ → Refusal
-refusalFrom L m count bs zero = refuse (ltb 0 (length bs)) LeftOver Accepted
+refusalFrom L m count bs zero = endRefusal bs
 refusalFrom L m count bs (suc b) =
     orElse (blockRefusal L m (min (blockSize L) count) bs)
     (refusalFrom L (afterAll m (valuesAt L m (min (blockSize L) count) bs)) (count - blockSize L) (drop (sizeAt L bs) bs) b)

@@ -1,7 +1,7 @@
 -- Tables: lists that are given by their elements.
 use mathlib.Core.Path.{_≡_, refl, sym, _∙_, ap, subst}
 use mathlib.Core.List.{List, [], _∷_, _++_}
-use Prim.Native.Nat.{ℕ, zero, suc, _+_, _-_, _≤_, _<_}
+use Prim.Native.Nat.{ℕ, zero, suc, _+_, _*_, _-_, _≤_, _<_}
 use native.Mathlib.Numerals.{add-one}
 use native.Mathlib.Omega.{arith}
 use native.Mathlib.Decide.{decLt}
@@ -63,6 +63,7 @@ front-table f m before after size fits here rest =
         let e : m + (i - m) ≡ i = omega arith in
         rest i (omega arith) ∙ sym (rw e at (behind (i - m)))
 
-pub length-packed : (L n : ℕ) (e : ℕ → ℕ) → length (packed L n e) ≡ payloadSize L n
+-- "A payload has 4Ln bytes."
+pub length-packed : (L n : ℕ) (e : ℕ → ℕ) → length (packed L n e) ≡ 4 * L * n
 unfolding packed
 length-packed L n e = length-table (payloadByte L n e) (payloadSize L n)

@@ -19,11 +19,6 @@ pub and-both : (a b : Bool) → a && b ≡ true → (a ≡ true) × (b ≡ true)
 and-both true b h = (refl, h)
 and-both false b h = let z : _≡_ {A = ℕ} 0 1 = cc in absurd (omega arith)
 
-pub fits-of : (e : ℕ → ℕ) (m n : ℕ) → Fit e m n → fits e m n ≡ true
-unfolding fits
-fits-of e zero n f = refl
-fits-of e (suc m) n f = rw (fits-of e m n (λ k h. f k (omega arith)), lt-ltb (e m) (2 ^ n) (f m (omega arith)))
-
 pub of-fits : (e : ℕ → ℕ) (m n : ℕ) → fits e m n ≡ true → Fit e m n
 unfolding fits
 of-fits e zero n t k h = absurd (omega arith)
@@ -34,6 +29,11 @@ of-fits e (suc m) n t k h = go (λ lt. of-fits e m n (and-both (fits e m n) (ltb
     go ih (no ge) =
         let i : k ≡ m = omega arith in
         rw i (ltb-true (e m) (2 ^ n) (and-both (fits e m n) (ltb (e m) (2 ^ n)) t .1))
+
+pub fits-of : (e : ℕ → ℕ) (m n : ℕ) → Fit e m n → fits e m n ≡ true
+unfolding fits
+fits-of e zero n f = refl
+fits-of e (suc m) n f = rw (fits-of e m n (λ k h. f k (omega arith)), lt-ltb (e m) (2 ^ n) (f m (omega arith)))
 
 -- one more fits
 pub fit-more : (e : ℕ → ℕ) (m n : ℕ) → Fit e m n → e m < 2 ^ n → Fit e (m + 1) n
@@ -57,20 +57,6 @@ pub fits-ext : (e f : ℕ → ℕ) (m n : ℕ) → ((k : ℕ) → k < m → e k 
 unfolding fits
 fits-ext e f zero n same = refl
 fits-ext e f (suc m) n same = rw (same m (omega arith), fits-ext e f m n (λ k h. same k (omega arith)))
-
--- whatever is measured, the width is at most 32
-least-most : (e : ℕ → ℕ) (m n more : ℕ) → leastFrom e m n more ≤ n + more
-unfolding leastFrom
-least-most e m n zero = omega arith
-least-most e m n (suc more) = go (fits e m n) (least-most e m (suc n) more)
-  where
-    go : (b : Bool) → leastFrom e m (suc n) more ≤ suc n + more → cond b n (leastFrom e m (suc n) more) ≤ n + suc more
-    go true h = omega arith
-    go false h = omega arith
-
-pub width-most : (e : ℕ → ℕ) (m : ℕ) → leastWidth e m ≤ 32
-unfolding leastWidth
-width-most e m = least-most e m 0 32
 
 pub least-unique : {e : ℕ → ℕ} {m a b : ℕ} → Least e m a → Least e m b → a ≡ b
 least-unique {e} {m} {a} {b} p q = omega (arith, p .least b (q .fit), q .least a (p .fit))
@@ -106,6 +92,20 @@ width-least e m f = least-search e m 0 32 (λ j g. omega arith) f
 
 pub width-small : (e : ℕ → ℕ) (m : ℕ) → Fit e m 32 → leastWidth e m ≤ 32
 width-small e m f = width-least e m f .least 32 f
+
+-- whatever is measured, the width is at most 32
+least-most : (e : ℕ → ℕ) (m n more : ℕ) → leastFrom e m n more ≤ n + more
+unfolding leastFrom
+least-most e m n zero = omega arith
+least-most e m n (suc more) = go (fits e m n) (least-most e m (suc n) more)
+  where
+    go : (b : Bool) → leastFrom e m (suc n) more ≤ suc n + more → cond b n (leastFrom e m (suc n) more) ≤ n + suc more
+    go true h = omega arith
+    go false h = omega arith
+
+pub width-most : (e : ℕ → ℕ) (m : ℕ) → leastWidth e m ≤ 32
+unfolding leastWidth
+width-most e m = least-most e m 0 32
 
 pub width-is : {e : ℕ → ℕ} {m n : ℕ} → Least e m n → n ≤ 32 → leastWidth e m ≡ n
 width-is {e} {m} {n} l h = least-unique (width-least e m (λ k lt. lt-of-lt-of-le (l .fit k lt) (pow-mono h))) l

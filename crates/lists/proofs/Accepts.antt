@@ -3,18 +3,19 @@ use mathlib.Core.Path.{_≡_, refl}
 use mathlib.Core.Bool.{true}
 use mathlib.Core.Logic.{_↔_}
 use mathlib.Core.List.{List}
-use Prim.Native.Nat.{ℕ, _≤_}
+use Prim.Native.Nat.{ℕ, _≤_, min}
 use borrow.Author.Tests.{ltb-false, le-ltb, not-false}
 use lib.ListN.{length}
 use Rattle.modes.specs.declared.Mode.{Mode}
 use Rattle.answers.specs.declared.Refusal.the-variants.{Accepted, BadLanes, NoRoom, TooMany, OutOfOrder}
 use Rattle.answers.specs.Refusals.{accepted}
-use Rattle.layout.specs.Layout.{isLanes}
+use Rattle.layout.specs.Layout.{blockSize, isLanes}
 use Rattle.answers.proofs.Refusals.{passed, both}
 use Rattle.order.specs.Order.{most, starting, ordered}
 use Rattle.bodies.specs.Body.{bodyOf}
-use Rattle.bodies.specs.Reading.{valuesRefusal, bodyRefusal}
+use Rattle.bodies.specs.Reading.{blockRefusal, bodyRefusal}
 use Rattle.lists.specs.Calls.{measureRefusal, writeRefusal, readRefusal}
+use Rattle.lists.specs.Parts.{readBlockRefusal}
 
 -- what measuring accepts
 pub record Measurable (L : ℕ) (m : Mode) (vs : List ℕ) : Type 0 where
@@ -63,3 +64,18 @@ read-exactly L m count bs room = (there, λ s. rw (s .lanes, le-ltb most count (
         let b = passed _ TooMany _ refl (a .1) in
         let c = passed _ NoRoom _ refl (b .1) in
         record { lanes = not-false _ (a .0); few = ltb-false most count (b .0); enough = ltb-false room count (c .0); body = c .1 }
+
+-- what reading a block by itself accepts
+pub record BlockReadable (L : ℕ) (m : Mode) (count : ℕ) (bs : List ℕ) (room : ℕ) : Type 0 where
+  pub lanes : isLanes L ≡ true
+  pub enough : min (blockSize L) count ≤ room
+  pub block : accepted (blockRefusal L m (min (blockSize L) count) bs) ≡ true
+
+pub read-block-exactly : (L : ℕ) (m : Mode) (count : ℕ) (bs : List ℕ) (room : ℕ) → (accepted (readBlockRefusal L m count bs room) ≡ true) ↔ BlockReadable L m count bs room
+read-block-exactly L m count bs room = (there, λ s. rw (s .lanes, le-ltb room (min (blockSize L) count) (s .enough)) (s .block))
+  where
+    there : accepted (readBlockRefusal L m count bs room) ≡ true → BlockReadable L m count bs room
+    there h =
+        let a = passed _ BadLanes _ refl h in
+        let b = passed _ NoRoom _ refl (a .1) in
+        record { lanes = not-false _ (a .0); enough = ltb-false room (min (blockSize L) count) (b .0); block = b .1 }

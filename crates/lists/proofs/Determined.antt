@@ -8,6 +8,14 @@ use Rattle.lists.proofs.write.Reads as write
 use Rattle.lists.proofs.write.Kinds as write-kinds
 use Rattle.lists.proofs.read.Reads as read
 use Rattle.lists.proofs.read.Kinds as read-kinds
+use Rattle.lists.proofs.frame.Reads as frame
+use Rattle.lists.proofs.frame.Kinds as frame-kinds
+use Rattle.lists.proofs.check_block.Reads as check-block
+use Rattle.lists.proofs.check_block.Kinds as check-block-kinds
+use Rattle.lists.proofs.read_block.Reads as read-block
+use Rattle.lists.proofs.read_block.Kinds as read-block-kinds
+use Rattle.lists.proofs.check.Reads as check
+use Rattle.lists.proofs.check.Kinds as check-kinds
 
 measure-asks-nothing : AsksNothing measure-kinds.ps measure.Pre
 measure-asks-nothing κs a = tt
@@ -26,3 +34,27 @@ read-asks-nothing κs a = tt
 
 read-determined : Determined read-kinds.ps read-kinds.r read.Post (λ κs e. e .1 .1 .1 .1 .0 .now)
 read-determined κs a z z′ e e′ p q = (p .0 ∙ sym (q .0), p .1 ∙ sym (q .1))
+
+frame-asks-nothing : AsksNothing frame-kinds.ps frame.Pre
+frame-asks-nothing κs a = tt
+
+frame-determined : AnswerDetermined frame-kinds.ps frame-kinds.r frame.Post
+frame-determined κs a z z′ e e′ p q = p ∙ sym q
+
+check-block-asks-nothing : AsksNothing check-block-kinds.ps check-block.Pre
+check-block-asks-nothing κs a = tt
+
+check-block-determined : AnswerDetermined check-block-kinds.ps check-block-kinds.r check-block.Post
+check-block-determined κs a z z′ e e′ p q = p ∙ sym q
+
+read-block-asks-nothing : AsksNothing read-block-kinds.ps read-block.Pre
+read-block-asks-nothing κs a = tt
+
+read-block-determined : Determined read-block-kinds.ps read-block-kinds.r read-block.Post (λ κs e. e .1 .1 .1 .1 .0 .now)
+read-block-determined κs a z z′ e e′ p q = (p .0 ∙ sym (q .0), p .1 ∙ sym (q .1))
+
+check-asks-nothing : AsksNothing check-kinds.ps check.Pre
+check-asks-nothing κs a = tt
+
+check-determined : AnswerDetermined check-kinds.ps check-kinds.r check.Post
+check-determined κs a z z′ e e′ p q = p ∙ sym q

@@ -1,9 +1,10 @@
 pub mod Standing
 pub mod BlockCalls
-pub mod Checks
+pub mod Takes
 pub mod Fetches
 pub mod Stores
 pub mod Accepts
 pub mod Demand
+pub mod Stops
 pub mod Starred
 pub mod Determined

@@ -36,8 +36,8 @@ fn fetch_block(lanes: usize, mode: Mode, bytes: &[u8], values: &mut [u32]) -> Mo
     after(mode, values[32 * lanes - 1])
 }
 
-// A last block that is not full, by way of a block of the reader's own: the output needs room for the count only.
-fn fetch_last(lanes: usize, mode: Mode, count: usize, bytes: &[u8], values: &mut [u32])
+// A last block that is not full, or any by itself, by way of a block of the reader's own: the output needs room for the count only.
+pub(crate) fn fetch_last(lanes: usize, mode: Mode, count: usize, bytes: &[u8], values: &mut [u32])
     requires { ⌜ (isLanes lanes ≡ true) × (accepted (frameRefusal lanes (now bytes)) ≡ true) × (count ≤ blockSize lanes) × (count ≤ length (now values)) ⌝ }
     ensures { λ r. ⌜ now (values .exit) ≡ over (valuesAt lanes mode count (now (bytes .entry))) (now (values .entry)) ⌝ }
 {

@@ -1,23 +1,32 @@
 // The list calls of document 01, and one that measures. Each takes any input, tests all of it before it writes anything, and writes nothing where it refuses.
 use answers::Answer;
 use answers::Refusal;
-use check::body_refusal;
+use bodies::Stop;
 use fetch::fetch_body;
+use fetch::fetch_last;
 use lanes::is_lanes;
 use modes::Mode;
 use order::MOST;
 use order::in_order;
 use order::starting;
+use sizes::block_length;
+use sizes::lesser;
+use sizes::widen;
 use store::body_length;
 use store::store_body;
+use take::frame_refusal;
+use take::nothing;
+use take::take_block;
+use take::take_body;
 ghost use mathlib.Core.Path.{_≡_};
 ghost use lib.ListN.{length};
 ghost use Rattle.lists.specs.Calls.{measureRefusal, measureAnswer, writeRefusal, writeAnswer, writeOutput, readRefusal, readAnswer, readOutput};
+ghost use Rattle.lists.specs.Parts.{frameAnswer, checkBlockStop, readBlockRefusal, readBlockAnswer, readBlockOutput, checkStop};
 
-mod check;
 mod fetch;
 mod sizes;
 mod store;
+mod take;
 
 fn measure_refusal(lanes: usize, mode: Mode, values: &[u32]) -> Refusal
     ensures { λ r. ⌜ r ≡ measureRefusal lanes mode (now (values .entry)) ⌝ }
@@ -83,7 +92,7 @@ fn read_refusal(lanes: usize, mode: Mode, count: usize, body: &[u8], room: usize
     if room < count {
         return Refusal::NoRoom;
     }
-    body_refusal(lanes, starting(mode), count, body)
+    take_body(lanes, starting(mode), count, body).refusal
 }
 
 // Read a list: the only list of `count` values that has this body, at the front of `values`. Answers the count.
@@ -97,4 +106,74 @@ pub fn read(lanes: usize, mode: Mode, count: usize, body: &[u8], values: &mut [u
     }
     fetch_body(lanes, mode, count, body, &mut values[..]);
     Answer::accepted(count)
+}
+
+// The frame of the block that the bytes begin with: its width byte, and whether its payload is there. Answers how many bytes the block has.
+pub fn frame(lanes: usize, bytes: &[u8]) -> Answer
+    ensures { λ r. ⌜ r ≡ frameAnswer lanes (now (bytes .entry)) ⌝ }
+{
+    if !is_lanes(lanes) {
+        return Answer::refused(Refusal::BadLanes);
+    }
+    let refusal = frame_refusal(lanes, bytes);
+    if !refusal.is_accepted() {
+        return Answer::refused(refusal);
+    }
+    Answer::accepted(block_length(lanes, widen(bytes[0])))
+}
+
+// Check the block that the bytes begin with, where `count` values are left and `mode` is the mode past those before it: of a list's first
+// block `order::starting` of the list's mode, of a later one the mode at which the check of the block before stopped.
+pub fn check_block(lanes: usize, mode: Mode, count: usize, bytes: &[u8]) -> Stop
+    ensures { λ r. ⌜ r ≡ checkBlockStop lanes mode count (now (bytes .entry)) ⌝ }
+{
+    if !is_lanes(lanes) {
+        return nothing(Refusal::BadLanes, 0, mode);
+    }
+    take_block(lanes, mode, count, bytes)
+}
+
+fn read_block_refusal(lanes: usize, mode: Mode, count: usize, bytes: &[u8], room: usize) -> Refusal
+    ensures { λ r. ⌜ r ≡ readBlockRefusal lanes mode count (now (bytes .entry)) room ⌝ }
+{
+    if !is_lanes(lanes) {
+        return Refusal::BadLanes;
+    }
+    if room < lesser(32 * lanes, count) {
+        return Refusal::NoRoom;
+    }
+    take_block(lanes, mode, count, bytes).refusal
+}
+
+// Read the block that the bytes begin with, given as to `check_block`: its values, at the front of `values`. Answers how many.
+pub fn read_block(
+    lanes: usize,
+    mode: Mode,
+    count: usize,
+    bytes: &[u8],
+    values: &mut [u32],
+) -> Answer
+    ensures { λ r. ⌜ r ≡ readBlockAnswer lanes mode count (now (bytes .entry)) (length (now (values .entry))) ⌝ }
+    ensures { λ r. ⌜ now (values .exit) ≡ readBlockOutput lanes mode count (now (bytes .entry)) (now (values .entry)) ⌝ }
+{
+    let refusal = read_block_refusal(lanes, mode, count, bytes, values.len());
+    if !refusal.is_accepted() {
+        return Answer::refused(refusal);
+    }
+    let k = lesser(32 * lanes, count);
+    fetch_last(lanes, mode, k, bytes, &mut values[..]);
+    Answer::accepted(k)
+}
+
+// Check a body as reading does: where it stops, and at what refusal.
+pub fn check(lanes: usize, mode: Mode, count: usize, body: &[u8]) -> Stop
+    ensures { λ r. ⌜ r ≡ checkStop lanes mode count (now (body .entry)) ⌝ }
+{
+    if !is_lanes(lanes) {
+        return nothing(Refusal::BadLanes, 0, mode);
+    }
+    if MOST < count {
+        return nothing(Refusal::TooMany, 0, mode);
+    }
+    take_body(lanes, starting(mode), count, body)
 }

@@ -33,7 +33,7 @@ value-small (Strict i) p e h = omega arith
 -- a block
 
 pub entries-small : (m : Mode) (v : ℕ → ℕ) (k : ℕ) → v k < 2 ^ 32 → entries m v k < 2 ^ 32
-entries-small m v k h = entry-small m (before (firstOf m) v k) (v k) h
+entries-small m v k h = entry-small m _ (v k) h
 
 pub values-small : (m : Mode) (p : ℕ) (e : ℕ → ℕ) (k : ℕ) → e k < 2 ^ 32 → valuesFrom m p e k < 2 ^ 32
 values-small m p e zero h = value-small m p (e 0) h

@@ -1,8 +1,13 @@
 -- Each test is the definition's, in its order.
-use mathlib.Core.Path.{_≡_, sym, _∙_}
+use mathlib.Core.Path.{_≡_, sym, _∙_, ap}
 use mathlib.Core.Bool.{true}
 use borrow.Author.Tests.{lt-ltb, le-ltb, not-true, not-false}
 use Rattle.layout.specs.Layout.{isLanes}
+use Rattle.modes.specs.declared.Mode.{Mode}
+use Rattle.bodies.specs.declared.Stop.{Stop}
+use Rattle.bodies.specs.Body.{blockCount}
+use Rattle.bodies.specs.Reading.{bodyRefusal}
+use Rattle.bodies.proofs.Stops.{stop-refusal}
 use borrow.Author.Needs.{needs}
 use Rattle.lists.proofs.read_refusal.Statement.{statement}
 use Rattle.lists.proofs.read_refusal.Tie as tie
@@ -19,13 +24,16 @@ returns-2 c = rw (good (c .before), lt-ltb 4096 _ (c .if2 .taken))
 returns-3 : tie.Need-returns-3
 returns-3 c = rw (good (c .before .before), le-ltb 4096 _ (c .before .if2 .left), lt-ltb _ _ (c .if3 .taken))
 
-body-refusal-requires : tie.Need-body-refusal-requires
-body-refusal-requires c κs = (good (c .before .before .before), c .before .before .if2 .left)
+take-body-requires : tie.Need-take-body-requires
+take-body-requires c κs = (good (c .before .before .before), c .before .before .if2 .left)
 
 returns-4 : tie.Need-returns-4
 returns-4 c =
     let e = c .before .before in
-    rw (good (e .before .before), le-ltb 4096 _ (e .before .if2 .left), le-ltb _ _ (e .if3 .left)) (c .body-refusal .ensures ∙ rw (c .before .starting .ensures))
+    let a = e .before .before .before .before .before .args in
+    rw (good (e .before .before), le-ltb 4096 _ (e .before .if2 .left), le-ltb _ _ (e .if3 .left))
+    (ap (λ (s : Stop). s .refusal) (c .take-body .ensures) ∙ stop-refusal (blockCount (a .lanes) (a .count)) (a .lanes) (c .before .starting .result) (a .count) (a .body .now)
+    ∙ ap (λ (m : Mode). bodyRefusal (a .lanes) m (a .count) (a .body .now)) (c .before .starting .ensures))
 
 pub read-refusal-spec : {M : Type 1} → statement M
 read-refusal-spec =
@@ -36,5 +44,5 @@ read-refusal-spec =
     returns-2
     returns-3
     (search needs)
-    body-refusal-requires
+    take-body-requires
     returns-4)

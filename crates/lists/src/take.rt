@@ -1,10 +1,11 @@
-// The tests of reading, block by block. Nothing is written.
+// The tests of reading, block by block, and where they stop. Nothing is written.
 use crate::sizes::block_length;
 use crate::sizes::lesser;
 use crate::sizes::widen;
 use answers::Refusal;
 use blocks::decompress;
 use blocks::num_bits;
+use bodies::Stop;
 use modes::Mode;
 use order::walk;
 ghost use mathlib.Core.Path.{_≡_};
@@ -15,11 +16,11 @@ ghost use Rattle.layout.specs.Layout.{at, blockSize, table, isLanes};
 ghost use Rattle.layout.specs.Width.{fits};
 ghost use Rattle.answers.specs.Refusals.{accepted};
 ghost use Rattle.order.specs.Order.{most};
-ghost use Rattle.bodies.specs.Reading.{entryAt, frameRefusal, entriesRefusal, bodyRefusal};
-ghost use Rattle.lists.specs.kernel.Steps.{checked};
+ghost use Rattle.bodies.specs.Reading.{entryAt, frameRefusal, entriesRefusal, endRefusal};
+ghost use Rattle.bodies.specs.Stops.{nothing, blockStop, bodyStop};
 
 // 5, 2, 5: whether the bytes begin with a whole block.
-fn frame_refusal(lanes: usize, bytes: &[u8]) -> Refusal
+pub(crate) fn frame_refusal(lanes: usize, bytes: &[u8]) -> Refusal
     requires { ⌜ isLanes lanes ≡ true ⌝ }
     ensures { λ r. ⌜ r ≡ frameRefusal lanes (now (bytes .entry)) ⌝ }
 {
@@ -75,67 +76,91 @@ fn entries_refusal(lanes: usize, count: usize, width: u32, entries: &[u32]) -> R
     Refusal::Accepted
 }
 
-// The refusal of a block, and the mode past its values; the mode before them where it is refused.
-struct Checked {
-    refusal: Refusal,
-    mode: Mode,
+// No block is taken, and so many values are left.
+pub(crate) fn nothing(refusal: Refusal, left: usize, mode: Mode) -> Stop
+    ensures { λ r. ⌜ r ≡ nothing refusal left mode ⌝ }
+{
+    Stop {
+        refusal,
+        blocks: 0,
+        place: 0,
+        left,
+        mode,
+    }
 }
 
-// 5, 2, 5, 10, 9, 8: the block that the bytes begin with, `count` of its values the list's.
-fn check_block(lanes: usize, mode: Mode, count: usize, bytes: &[u8]) -> Checked
-    requires { ⌜ (isLanes lanes ≡ true) × (count ≤ blockSize lanes) ⌝ }
-    ensures { λ r. ⌜ r ≡ checked lanes mode count (now (bytes .entry)) ⌝ }
+// 5, 2, 5, 10, 9, 8: the block that the bytes begin with, as many of its values the list's as are left, or all.
+pub(crate) fn take_block(lanes: usize, mode: Mode, left: usize, bytes: &[u8]) -> Stop
+    requires { ⌜ isLanes lanes ≡ true ⌝ }
+    ensures { λ r. ⌜ r ≡ blockStop lanes mode left (now (bytes .entry)) ⌝ }
 {
     let frame = frame_refusal(lanes, bytes);
     if !frame.is_accepted() {
-        return Checked {
-            refusal: frame,
-            mode,
-        };
+        return nothing(frame, left, mode);
     }
+    let count = lesser(32 * lanes, left);
+    let width = widen(bytes[0]);
     let block = block_entries(lanes, bytes);
-    let shape = entries_refusal(lanes, count, widen(bytes[0]), &block[..32 * lanes]);
+    let shape = entries_refusal(lanes, count, width, &block[..32 * lanes]);
     if !shape.is_accepted() {
-        return Checked {
-            refusal: shape,
-            mode,
-        };
+        return nothing(shape, left, mode);
     }
     let course = walk(mode, &block[..count]);
     if !course.orderly {
-        return Checked {
-            refusal: Refusal::OutOfOrder,
-            mode,
-        };
+        return nothing(Refusal::OutOfOrder, left, mode);
     }
     let next = course.mode;
-    Checked {
+    Stop {
         refusal: Refusal::Accepted,
+        blocks: 1,
+        place: block_length(lanes, width),
+        left: left - count,
         mode: next,
     }
 }
 
+// 11: whether nothing stands behind the last block.
+fn end_refusal(rest: &[u8]) -> Refusal
+    ensures { λ r. ⌜ r ≡ endRefusal (now (rest .entry)) ⌝ }
+{
+    if 0 < rest.len() {
+        Refusal::LeftOver
+    } else {
+        Refusal::Accepted
+    }
+}
+
 // The blocks one after another, and at the end 11.
-pub(crate) fn body_refusal(lanes: usize, mode: Mode, count: usize, body: &[u8]) -> Refusal
+pub(crate) fn take_body(lanes: usize, mode: Mode, count: usize, body: &[u8]) -> Stop
     requires { ⌜ (isLanes lanes ≡ true) × (count ≤ most) ⌝ }
-    ensures { λ r. ⌜ r ≡ bodyRefusal lanes mode count (now (body .entry)) ⌝ }
+    ensures { λ r. ⌜ r ≡ bodyStop lanes mode count (now (body .entry)) ⌝ }
 {
     let mut running = mode;
+    let mut blocks: usize = 0;
     let mut place: usize = 0;
     let mut left = count;
     while 0 < left {
-        let k = lesser(32 * lanes, left);
-        let block = check_block(lanes, running, k, &body[place..]);
-        let refusal = block.refusal;
+        let step = take_block(lanes, running, left, &body[place..]);
+        let refusal = step.refusal;
         if !refusal.is_accepted() {
-            return refusal;
+            return Stop {
+                refusal,
+                blocks,
+                place,
+                left,
+                mode: running,
+            };
         }
-        place += block_length(lanes, widen(body[place]));
-        left -= k;
-        running = block.mode;
+        blocks += 1;
+        place += step.place;
+        left = step.left;
+        running = step.mode;
     }
-    if place < body.len() {
-        return Refusal::LeftOver;
+    Stop {
+        refusal: end_refusal(&body[place..]),
+        blocks,
+        place,
+        left,
+        mode: running,
     }
-    Refusal::Accepted
 }

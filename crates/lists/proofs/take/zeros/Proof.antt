@@ -7,8 +7,8 @@ use Rattle.layout.specs.Layout.{at}
 use Rattle.layout.proofs.Widths.{fit-more, fits-of, fits-fails}
 use Rattle.layout.specs.Claims.{Fit}
 use borrow.Author.Needs.{needs}
-use Rattle.lists.proofs.check.zeros.Statement.{statement}
-use Rattle.lists.proofs.check.zeros.Tie as tie
+use Rattle.lists.proofs.take.zeros.Statement.{statement}
+use Rattle.lists.proofs.take.zeros.Tie as tie
 
 abbrev Inv-loop : tie.InvT-loop
 Inv-loop entries i₀ i = Fit (at entries) i 0

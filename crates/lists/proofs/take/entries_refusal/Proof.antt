@@ -5,10 +5,10 @@ use Rattle.layout.specs.Layout.{at, blockSize}
 use Rattle.layout.specs.Width.{leastWidth}
 use Rattle.bodies.specs.Reading.{entriesRefusal}
 use Rattle.lists.proofs.BlockCalls.{width-is}
-use Rattle.lists.proofs.Checks.{fill-part}
+use Rattle.lists.proofs.Takes.{fill-part}
 use borrow.Author.Needs.{needs}
-use Rattle.lists.proofs.check.entries_refusal.Statement.{statement}
-use Rattle.lists.proofs.check.entries_refusal.Tie as tie
+use Rattle.lists.proofs.take.entries_refusal.Statement.{statement}
+use Rattle.lists.proofs.take.entries_refusal.Tie as tie
 
 returns : tie.Need-returns
 unfolding entriesRefusal

@@ -5,8 +5,8 @@ use native.Mathlib.Omega.{arith}
 use Rattle.bodies.proofs.Tests.{framed}
 use Rattle.lists.proofs.BlockCalls.{entries-is}
 use borrow.Author.Needs.{needs}
-use Rattle.lists.proofs.check.block_entries.Statement.{statement}
-use Rattle.lists.proofs.check.block_entries.Tie as tie
+use Rattle.lists.proofs.take.block_entries.Statement.{statement}
+use Rattle.lists.proofs.take.block_entries.Tie as tie
 
 sub-decompress : tie.Need-sub-decompress
 sub-decompress c = omega (arith, framed _ _ (c .before .pre .1) .some)

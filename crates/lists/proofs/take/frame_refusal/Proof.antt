@@ -2,8 +2,8 @@
 use borrow.Author.Tests.{lt-ltb, le-ltb}
 use Rattle.bodies.specs.Reading.{frameRefusal}
 use borrow.Author.Needs.{needs}
-use Rattle.lists.proofs.check.frame_refusal.Statement.{statement}
-use Rattle.lists.proofs.check.frame_refusal.Tie as tie
+use Rattle.lists.proofs.take.frame_refusal.Statement.{statement}
+use Rattle.lists.proofs.take.frame_refusal.Tie as tie
 
 returns : tie.Need-returns
 unfolding frameRefusal

@@ -1,0 +1,42 @@
+-- Lanes and count, and then the body.
+use mathlib.Core.Path.{_≡_, sym, _∙_}
+use mathlib.Core.Bool.{true}
+use borrow.Author.Tests.{lt-ltb, le-ltb, not-true, not-false}
+use Rattle.layout.specs.Layout.{isLanes}
+use borrow.Author.Needs.{needs}
+use Rattle.lists.proofs.check.Statement.{statement}
+use Rattle.lists.proofs.check.Tie as tie
+
+returns : tie.Need-returns
+returns c =
+    let t = c .before in
+    c .nothing .ensures ∙ rw (sym (t .before .is-lanes .ensures) ∙ not-true _ (t .if1 .taken))
+
+good : (c : tie.Else1) → isLanes (c .before .before .before .args .lanes) ≡ true
+good c = sym (c .before .is-lanes .ensures) ∙ not-false _ (c .if1 .left)
+
+returns-2 : tie.Need-returns-2
+returns-2 c =
+    let t = c .before in
+    c .nothing2 .ensures ∙ rw (good (t .before), lt-ltb 4096 _ (t .if2 .taken))
+
+take-body-requires : tie.Need-take-body-requires
+take-body-requires c κs = (good (c .before .before), c .before .if2 .left)
+
+returns-3 : tie.Need-returns-3
+returns-3 c =
+    let e = c .before .before in
+    c .take-body .ensures ∙ rw (good (e .before), le-ltb 4096 _ (e .if2 .left), c .before .starting .ensures)
+
+pub check-spec : {M : Type 1} → statement M
+check-spec =
+    tie.close
+    (tie.spec
+    (search needs)
+    (search needs)
+    returns
+    (search needs)
+    returns-2
+    (search needs)
+    take-body-requires
+    returns-3)

@@ -2,6 +2,10 @@
 -- is what it leaves in the memory that it was lent to write.
 use mathlib.Core.Path.{sym, _∙_}
 use Rattle.answers.proofs.Contracts.{AsksNothing, AnswerDetermined, SeenDetermined, Determined}
+use Rattle.files.proofs.find.Reads as find
+use Rattle.files.proofs.find.Kinds as find-kinds
+use Rattle.files.proofs.find_file.Reads as find-file
+use Rattle.files.proofs.find_file.Kinds as find-file-kinds
 use Rattle.files.proofs.header.Reads as header
 use Rattle.files.proofs.header.Kinds as header-kinds
 use Rattle.files.proofs.open.Reads as open-call
@@ -12,6 +16,18 @@ use Rattle.files.proofs.write.Reads as write
 use Rattle.files.proofs.write.Kinds as write-kinds
 use Rattle.files.proofs.settings.Reads as settings
 use Rattle.files.proofs.settings.Kinds as settings-kinds
+
+find-asks-nothing : AsksNothing find-kinds.ps find.Pre
+find-asks-nothing κs a = tt
+
+find-determined : AnswerDetermined find-kinds.ps find-kinds.r find.Post
+find-determined κs a z z′ e e′ p q = p ∙ sym q
+
+find-file-asks-nothing : AsksNothing find-file-kinds.ps find-file.Pre
+find-file-asks-nothing κs a = tt
+
+find-file-determined : AnswerDetermined find-file-kinds.ps find-file-kinds.r find-file.Post
+find-file-determined κs a z z′ e e′ p q = p ∙ sym q
 
 header-asks-nothing : AsksNothing header-kinds.ps header.Pre
 header-asks-nothing κs a = tt

@@ -1,6 +1,6 @@
 pub mod Lines
-pub mod Tests
 pub mod Filing
-pub mod Found
+pub mod FoundLines
+pub mod Tests
 pub mod Theorems
 pub mod Determined

@@ -4,7 +4,6 @@ use mathlib.Core.Bool.{Bool, true, false, cond}
 use mathlib.Core.Logic.{_↔_}
 use mathlib.Core.List.{List, [], _++_}
 use Prim.Native.Nat.{ℕ, _+_, _^_, _≤_, _<_}
-use native.Mathlib.Nat.{mod-lt}
 use native.Mathlib.Omega.{arith}
 use borrow.Author.Tests.{le-ltb}
 use lib.ListN.{length, drop}
@@ -15,7 +14,6 @@ use Rattle.answers.specs.declared.Refusal.the-variants.{Accepted}
 use Rattle.answers.specs.Refusals.{accepted}
 use Rattle.answers.proofs.Refusals.{apart, accepted-is, both}
 use Rattle.layout.proofs.Below.{below-drop}
-use Rattle.layout.proofs.Widths.{and-both}
 use Rattle.modes.specs.Entries.{firstOf}
 use Rattle.modes.specs.declared.Initial.the-variants.{None, Number}
 use Rattle.modes.specs.declared.Mode.{Mode}
@@ -28,76 +26,76 @@ use Rattle.lists.specs.Calls.{measureRefusal, readRefusal}
 use Rattle.lists.proofs.Accepts.{measure-exactly}
 use Rattle.lists.specs.Demand.{Holds}
 use Rattle.lists.proofs.Demand.{list-read, body-accepted, list-back}
-use Rattle.text.specs.Text.{begins, fieldAt}
+use Rattle.text.specs.Text.{begins}
 use Rattle.text.proofs.Beginnings.{begins-whole, whole-begins}
 use Rattle.files.specs.declared.Opened.{Opened}
+use Rattle.files.specs.declared.Found.{Found}
+use Rattle.files.specs.declared.Packing.{Packing}
 use Rattle.files.specs.declared.heading.Header.{Header}
 use Rattle.files.specs.Header.{modeWord, initialText, firstText, settings, fileOf, readBack, headerText, IsHeader, Heads, Sets}
-use Rattle.files.specs.kernel.Fields.{isPlain, isSorted, firstAt, isNone, modeIn, headerIn}
-use Rattle.files.specs.Opening.{bodyIn, isFile, headerRefusal, headerAnswer, openAnswer, settingsIn, isSettings, settingsAnswer}
+use Rattle.files.specs.kernel.Finding.{settingsIn, headerFound}
+use Rattle.files.specs.Opening.{isSettings, isHeaded, headerIn, bodyIn, isFile, headerRefusal, headerAnswer, openAnswer}
 use Rattle.files.specs.Calls.{listIn, readRefusalOf, readAnswerOf, readOutputOf, headerFor, fileFor, writeAnswerOf, writeOutputOf}
-use Rattle.files.proofs.Tests.{Filed, filed, is-file}
+use Rattle.files.proofs.Tests.{filed, is-file}
 use Rattle.files.proofs.Filing.{file-splits}
-use Rattle.files.proofs.Found.{settings-found, fields-found}
+use Rattle.files.proofs.FoundLines.{settings-there, settings-found, header-there, header-found}
 use Rattle.files.proofs.Lines.{settings-rest}
 
--- the header of a file that is one
+-- a header at the front of a file
 
-mode-small : (file : List ℕ) → firstOf (modeIn file) < 2 ^ 32
-unfolding modeIn
-mode-small file = go (isPlain file) (isSorted file) (isNone file)
-  where
-    v : ℕ
-    v = fieldAt file (firstAt file)
+-- where one is found it is there, and the body behind it
+module _ (file : List ℕ) (h : isHeaded file ≡ true) where
+  pub found-sound : IsHeader (headerIn file)
+  found-sound = header-there file h .sound
 
-    small : fieldAt file (firstAt file) < 2 ^ 32
-    small = mod-lt _ (omega arith)
+  -- the body starts where the header's text ends
+  pub found-start : headerFound file .start ≡ length (headerText (headerIn file))
+  found-start = header-there file h .size
 
-    go : (p s n : Bool) → firstOf (cond p Plain (cond s (Sorted (fieldAt file (firstAt file))) (cond n (Strict None) (Strict (Number (fieldAt file (firstAt file))))))) < 2 ^ 32
-    go true s n = omega arith
-    go false true n = small
-    go false false true = omega arith
-    go false false false = small
+  pub found-whole : file ≡ fileOf (headerIn file) (bodyIn file)
+  found-whole =
+      begins-whole (headerText (headerIn file)) file (header-there file h .there)
+      ∙ ap (λ (n : ℕ). headerText (headerIn file) ++ drop n file) (sym found-start)
+      ∙ file-splits (headerIn file) (bodyIn file)
 
-header-sound : (file : List ℕ) → Filed file → IsHeader (headerIn file)
-unfolding headerIn
-header-sound file f =
-    record {
-      lanes = f .lanes;
-      mode = starting-twice (modeIn file);
-      first = rw (starting-first (modeIn file)) (mode-small file);
-      count = mod-lt _ (omega arith);
-      bytes = mod-lt _ (omega arith);
-    }
+-- and what some header writes is found, whatever stands behind it
+module _ (file : List ℕ) (h : Header) (body : List ℕ) (sound : IsHeader h) (whole : file ≡ fileOf h body) where
+  split : file ≡ headerText h ++ body
+  split = whole ∙ sym (file-splits h body)
 
-header-heads : (file : List ℕ) → isFile file ≡ true → Heads file (headerIn file) (bodyIn file)
-unfolding bodyIn
-header-heads file h =
-    let f = filed file h in
-    record { sound = header-sound file f; whole = begins-whole (headerText (headerIn file)) file (f .text) ∙ file-splits (headerIn file) (drop (length (headerText (headerIn file))) file); told = f .bytes }
+  pub header-is-found : headerFound file ≡ record { refusal = Accepted; header = h; start = length (headerText h) }
+  header-is-found = header-found file h sound (ap (begins (headerText h)) split ∙ whole-begins (headerText h) body)
+
+  pub body-behind : bodyIn file ≡ body
+  body-behind = ap (λ (f : Found). drop (f .start) file) header-is-found ∙ ap (drop (length (headerText h))) split ∙ drop-at (headerText h) body (length (headerText h)) refl
+
+-- a file begins with a header exactly where some header writes its front
+pub found-exactly : (file : List ℕ) → (isHeaded file ≡ true) ↔ ((h : Header) × ((body : List ℕ) × (IsHeader h × (file ≡ fileOf h body))))
+found-exactly file = (λ h. (headerIn file, (bodyIn file, (found-sound file h, found-whole file h))), λ x. ap (λ (f : Found). accepted (f .refusal)) (header-is-found file (x .0) (x .1 .0) (x .1 .1 .0) (x .1 .1 .1)))
 
 -- a file that some header writes, opened
 
+pub header-heads : (file : List ℕ) → isFile file ≡ true → Heads file (headerIn file) (bodyIn file)
+header-heads file h =
+    let f = filed file h in
+    record { sound = found-sound file (f .headed); whole = found-whole file (f .headed); told = f .bytes }
+
 module _ {file : List ℕ} {h : Header} {body : List ℕ} (hd : Heads file h body) where
-  split : file ≡ headerText h ++ body
-  split = hd .whole ∙ sym (file-splits h body)
+  found : headerFound file ≡ record { refusal = Accepted; header = h; start = length (headerText h) }
+  found = header-is-found file h body (hd .sound) (hd .whole)
+
+  pub fields-found : headerIn file ≡ h
+  fields-found = ap (λ (f : Found). f .header) found
 
   pub body-found : bodyIn file ≡ body
-  unfolding bodyIn
-  body-found = rw (fields-found file h body hd) (ap (drop (length (headerText h))) split ∙ drop-at (headerText h) body (length (headerText h)) refl)
+  body-found = body-behind file h body (hd .sound) (hd .whole)
 
   pub heads-file : isFile file ≡ true
-  heads-file =
-      is-file file
-      record {
-        lanes = rw (fields-found file h body hd) (hd .sound .lanes);
-        text = rw (fields-found file h body hd) (ap (begins (headerText h)) split ∙ whole-begins (headerText h) body);
-        bytes = rw (fields-found file h body hd, body-found) (hd .told);
-      }
+  heads-file = is-file file (record { headed = ap (λ (f : Found). accepted (f .refusal)) found; bytes = rw (fields-found, body-found) (hd .told) })
 
   -- a header written is read back as it was, and the body with it
   pub header-back : headerAnswer file ≡ record { refusal = Accepted; header = h }
-  header-back = rw (heads-file, fields-found file h body hd)
+  header-back = rw (heads-file, fields-found)
 
   pub body-back : openAnswer file ≡ body
   body-back = rw heads-file body-found
@@ -119,38 +117,31 @@ header-again file h =
 -- the lanes, mode and first lines of a text, whatever stands behind them
 
 module _ {text : List ℕ} {L : ℕ} {m : Mode} {rest : List ℕ} (s : Sets text L m rest) where
-  pub sets-found : (headerIn text .lanes ≡ L) × (headerIn text .mode ≡ m)
-  sets-found = settings-found text L m rest (s .lanes) (s .mode) (s .first) (s .whole)
-
   split-text : text ≡ settings L m [] ++ rest
   split-text = s .whole ∙ sym (settings-rest L m rest)
 
-  pub sets-settings : isSettings text ≡ true
-  unfolding isSettings
-  sets-settings = rw (sets-found .0, sets-found .1, s .lanes) (ap (begins (settings L m [])) split-text ∙ whole-begins (settings L m []) rest)
+  pub settings-back : settingsIn text ≡ record { refusal = Accepted; lanes = L; mode = m; length = length (settings L m []) }
+  settings-back = settings-found text L m (s .lanes) (s .mode) (s .first) (ap (begins (settings L m [])) split-text ∙ whole-begins (settings L m []) rest)
 
-  pub rest-found : drop (length (settingsIn text)) text ≡ rest
-  rest-found =
-      let e : settingsIn text ≡ settings L m [] = ap₂ (λ (a : ℕ) (b : Mode). settings a b []) (sets-found .0) (sets-found .1) in
-      ap (λ (t : List ℕ). drop (length t) text) e ∙ ap (drop (length (settings L m []))) split-text ∙ drop-at (settings L m []) rest (length (settings L m [])) refl
+  pub rest-found : drop (settingsIn text .length) text ≡ rest
+  rest-found = ap (λ (p : Packing). drop (p .length) text) settings-back ∙ ap (drop (length (settings L m []))) split-text ∙ drop-at (settings L m []) rest (length (settings L m [])) refl
 
-  pub settings-back : settingsAnswer text ≡ record { refusal = Accepted; lanes = L; mode = m; length = length (settings L m []) }
-  settings-back = rw (sets-settings, sets-found .0, sets-found .1)
-
-pub settings-sets : (text : List ℕ) → isSettings text ≡ true → Sets text (headerIn text .lanes) (headerIn text .mode) (drop (length (settingsIn text)) text)
-unfolding isSettings headerIn
+pub settings-sets : (text : List ℕ) → isSettings text ≡ true → Sets text (settingsIn text .lanes) (settingsIn text .mode) (drop (settingsIn text .length) text)
 settings-sets text h =
-    let a = and-both (isLanes (headerIn text .lanes)) _ h in
+    let t = settings-there text h in
+    let L : ℕ = settingsIn text .lanes in
+    let m : Mode = settingsIn text .mode in
     record {
-      lanes = a .0;
-      mode = starting-twice (modeIn text);
-      first = rw (starting-first (modeIn text)) (mode-small text);
-      whole = begins-whole (settingsIn text) text (a .1) ∙ settings-rest (headerIn text .lanes) (headerIn text .mode) (drop (length (settingsIn text)) text);
+      lanes = t .lanes;
+      mode = t .mode;
+      first = t .first;
+      whole = begins-whole (settings L m []) text (t .there) ∙ ap (λ (n : ℕ). settings L m [] ++ drop n text) (sym (t .size)) ∙ settings-rest L m (drop (settingsIn text .length) text);
     }
 
 -- accepted are exactly the texts that begin with what some lanes and mode write
 pub settings-exactly : (text : List ℕ) → (isSettings text ≡ true) ↔ ((L : ℕ) × ((m : Mode) × ((rest : List ℕ) × Sets text L m rest)))
-settings-exactly text = (λ h. (headerIn text .lanes, (headerIn text .mode, (drop (length (settingsIn text)) text, settings-sets text h))), λ x. sets-settings (x .1 .1 .1))
+settings-exactly text =
+    (λ h. (settingsIn text .lanes, (settingsIn text .mode, (drop (settingsIn text .length) text, settings-sets text h))), λ x. ap (λ (p : Packing). accepted (p .refusal)) (settings-back (x .1 .1 .1)))
 
 -- strict with 4,294,967,295 has the text of strict with none
 
@@ -196,9 +187,8 @@ module _ (file : List ℕ) (room : ℕ) (bytes : Below 256 file) (h : accepted (
   opened = header-heads file (heads-file (opens-exactly file .0 (both (headerRefusal file) _ h .0) .1 .1))
 
   pub held : Holds (headerIn file .lanes) (headerIn file .mode) (headerIn file .count) (bodyIn file) (listIn file)
-  unfolding bodyIn
   held =
-      list-read (headerIn file .lanes) (headerIn file .mode) (opened .sound .lanes) (opened .sound .first) (headerIn file .count) room (bodyIn file) (below-drop (length (headerText (headerIn file))) file bytes) (both (headerRefusal file) _ h .1)
+      list-read (headerIn file .lanes) (headerIn file .mode) (opened .sound .lanes) (opened .sound .first) (headerIn file .count) room (bodyIn file) (below-drop (headerFound file .start) file bytes) (both (headerRefusal file) _ h .1)
 
   pub same-file : fileFor (headerIn file .lanes) (headerIn file .mode) (listIn file) ≡ file
   unfolding fileFor
@@ -240,20 +230,17 @@ module _ (L : ℕ) (m : Mode) (vs : List ℕ) (lanes : isLanes L ≡ true) (firs
   -- whatever the room, if there is room for the list
   pub file-accepted : (room : ℕ) → length vs ≤ room → readRefusalOf (fileFor L m vs) room ≡ Accepted
   file-accepted room enough =
-      let f = fields-found (fileFor L m vs) (readBack (headerFor L m vs)) (bodyOf L m vs) heads in
       let k : readRefusal L (starting m) (length vs) (bodyOf L m vs) room ≡ Accepted = accepted-is _ (body-accepted L (starting m) lanes small holds room enough) in
-      rw (heads-file heads, f, body-found heads, k)
+      rw (heads-file heads, fields-found heads, body-found heads, k)
 
   pub file-list-back : listIn (fileFor L m vs) ≡ vs
   file-list-back =
-      let f = fields-found (fileFor L m vs) (readBack (headerFor L m vs)) (bodyOf L m vs) heads in
-      rw (f, body-found heads) (list-back L (starting m) lanes small holds)
+      rw (fields-found heads, body-found heads) (list-back L (starting m) lanes small holds)
 
   pub file-read-back : (out : List ℕ) → length vs ≤ length out → (readAnswerOf (fileFor L m vs) (length out) ≡ record { refusal = Accepted; length = length vs }) × (readOutputOf (fileFor L m vs) out ≡ over vs out)
   file-read-back out room =
-      let f = fields-found (fileFor L m vs) (readBack (headerFor L m vs)) (bodyOf L m vs) heads in
       let k = file-accepted (length out) room in
-      (rw k (ap (λ (h : Header). record { refusal = Accepted; length = h .count }) f), rw (k, file-list-back))
+      (rw k (ap (λ (h : Header). record { refusal = Accepted; length = h .count }) (fields-found heads)), rw (k, file-list-back))
 
 pub last-is-none : starting (Strict (Number 4294967295)) ≡ Strict None
 last-is-none = refl

@@ -14,8 +14,7 @@ use Rattle.bodies.specs.Reading.{listOf}
 use Rattle.lists.specs.Calls.{measureRefusal, readRefusal}
 use Rattle.files.specs.declared.heading.Header.{Header}
 use Rattle.files.specs.Header.{fileOf}
-use Rattle.files.specs.kernel.Fields.{headerIn}
-use Rattle.files.specs.Opening.{bodyIn, headerRefusal}
+use Rattle.files.specs.Opening.{headerIn, bodyIn, headerRefusal}
 
 -- the list that a file holds
 abbrev pub listIn : List ℕ → List ℕ

@@ -1,49 +1,123 @@
-// The list file calls of document 01, and one for the lines that a file and a text have in common. Each takes any input; none limits the
-// size of a file.
+// The list file calls of document 01, and what they find a header by. Each takes any input; none limits the size of a file.
 use answers::Answer;
 use answers::Refusal;
-use fields::header_in;
+use finding::mode_lines;
+use finding::size_lines;
 use heading::Header;
 use heading::put_header;
-use heading::put_settings;
 use lanes::is_lanes;
 use lists::measure;
 use modes::Mode;
-use text::begins;
+use text::number_line;
 use text::put;
 ghost use mathlib.Core.Path.{_≡_};
 ghost use lib.ListN.{length};
-ghost use Rattle.files.specs.Header.{headerText};
-ghost use Rattle.files.specs.Opening.{isFile, headerAnswer, openAnswer, settingsAnswer};
+ghost use Rattle.files.specs.kernel.Finding.{settingsIn, nothingFound, headerFound};
+ghost use Rattle.files.specs.Opening.{fileFound, headerAnswer, openAnswer};
 ghost use Rattle.files.specs.Calls.{readAnswerOf, readOutputOf, writeAnswerOf, writeOutputOf};
 
-mod fields;
+mod finding;
 pub mod heading;
 
-// The length of the header's text.
-fn header_length(header: Header) -> usize
-    ensures { λ r. ⌜ r ≡ length (headerText header) ⌝ }
-{
-    let mut text = [0u8; 96];
-    put_header(header, &mut text)
+// How a list is packed, as the lanes, mode and first lines say it, and how long these lines are.
+pub struct Packing {
+    pub refusal: Refusal,
+    pub lanes: u32,
+    pub mode: Mode,
+    pub length: usize,
 }
 
-// Whether the file is what its header writes, with as many bytes behind it as it says.
-fn is_file(file: &[u8]) -> bool
-    ensures { λ r. ⌜ r ≡ isFile (now (file .entry)) ⌝ }
+// What the lanes, mode and first lines say that a text or a file begins with; or 12, lanes 0, plain and length 0.
+pub fn settings(text: &[u8]) -> Packing
+    ensures { λ r. ⌜ r ≡ settingsIn (now (text .entry)) ⌝ }
 {
-    let header = header_in(file);
-    let lanes = header.lanes;
+    let none = Packing {
+        refusal: Refusal::BadHeader,
+        lanes: 0,
+        mode: Mode::Plain,
+        length: 0,
+    };
+    let laned = number_line(b"lanes=", text);
+    let lanes = laned.value;
     if !is_lanes(lanes as usize) {
-        return false;
+        return none;
     }
-    let mut text = [0u8; 96];
-    let length = put_header(header, &mut text);
-    if !begins(&text[..length], file) {
-        return false;
+    let place = laned.length;
+    let moded = mode_lines(&text[place..]);
+    if moded.length == 0 {
+        return none;
     }
-    let bytes = header.bytes;
-    bytes as usize == file.len() - length
+    let mode = moded.mode;
+    Packing {
+        refusal: Refusal::Accepted,
+        lanes,
+        mode,
+        length: place + moded.length,
+    }
+}
+
+// A header that was found, and where the body starts behind it.
+pub struct Found {
+    pub refusal: Refusal,
+    pub header: Header,
+    pub start: usize,
+}
+
+impl Found {
+    // What is handed out beside 12.
+    fn nothing() -> Found
+        ensures { λ r. ⌜ r ≡ nothingFound ⌝ }
+    {
+        Found {
+            refusal: Refusal::BadHeader,
+            header: Header {
+                lanes: 0,
+                mode: Mode::Plain,
+                count: 0,
+                bytes: 0,
+            },
+            start: 0,
+        }
+    }
+}
+
+// The header that a file begins with, whatever its `bytes` says; or 12.
+pub fn find(file: &[u8]) -> Found
+    ensures { λ r. ⌜ r ≡ headerFound (now (file .entry)) ⌝ }
+{
+    let said = settings(file);
+    let refusal = said.refusal;
+    if !refusal.is_accepted() {
+        return Found::nothing();
+    }
+    let place = said.length;
+    let sized = size_lines(&file[place..]);
+    if sized.length == 0 {
+        return Found::nothing();
+    }
+    let mode = said.mode;
+    Found {
+        refusal: Refusal::Accepted,
+        header: Header {
+            lanes: said.lanes,
+            mode,
+            count: sized.count,
+            bytes: sized.bytes,
+        },
+        start: place + sized.length,
+    }
+}
+
+// The header of a file, with as many bytes behind it as it says; or 12.
+pub fn find_file(file: &[u8]) -> Found
+    ensures { λ r. ⌜ r ≡ fileFound (now (file .entry)) ⌝ }
+{
+    let found = find(file);
+    let bytes = found.header.bytes;
+    if bytes as usize != file.len() - found.start {
+        return Found::nothing();
+    }
+    found
 }
 
 // What the header call answers.
@@ -56,32 +130,23 @@ pub struct Opened {
 pub fn header(file: &[u8]) -> Opened
     ensures { λ r. ⌜ r ≡ headerAnswer (now (file .entry)) ⌝ }
 {
-    if !is_file(file) {
-        return Opened {
-            refusal: Refusal::BadHeader,
-            header: Header {
-                lanes: 0,
-                mode: Mode::Plain,
-                count: 0,
-                bytes: 0,
-            },
-        };
-    }
-    Opened {
-        refusal: Refusal::Accepted,
-        header: header_in(file),
-    }
+    let found = find_file(file);
+    let refusal = found.refusal;
+    let header = found.header;
+    Opened { refusal, header }
 }
 
 // The body of a file, or the empty part.
 pub fn open(file: &[u8]) -> &[u8]
     ensures { λ r. ⌜ now r ≡ openAnswer (now (file .entry)) ⌝ }
 {
-    if !is_file(file) {
+    let found = find_file(file);
+    let refusal = found.refusal;
+    if !refusal.is_accepted() {
         return &file[..0];
     }
-    let length = header_length(header_in(file));
-    &file[length..]
+    let start = found.start;
+    &file[start..]
 }
 
 // Read a file: the list that it holds, at the front of `values`. Answers its count.
@@ -89,15 +154,17 @@ pub fn read(file: &[u8], values: &mut [u32]) -> Answer
     ensures { λ r. ⌜ r ≡ readAnswerOf (now (file .entry)) (length (now (values .entry))) ⌝ }
     ensures { λ r. ⌜ now (values .exit) ≡ readOutputOf (now (file .entry)) (now (values .entry)) ⌝ }
 {
-    if !is_file(file) {
-        return Answer::refused(Refusal::BadHeader);
+    let found = find_file(file);
+    let refusal = found.refusal;
+    if !refusal.is_accepted() {
+        return Answer::refused(refusal);
     }
-    let header = header_in(file);
+    let header = found.header;
     let lanes = header.lanes;
     let mode = header.mode;
     let count = header.count;
-    let body = open(file);
-    lists::read(lanes as usize, mode, count as usize, body, values)
+    let start = found.start;
+    lists::read(lanes as usize, mode, count as usize, &file[start..], values)
 }
 
 // Write a file: the header and the body of a list, at the front of `file`. Answers the file's length.
@@ -125,41 +192,4 @@ pub fn write(lanes: usize, mode: Mode, values: &[u32], file: &mut [u8]) -> Answe
     put(&text[..length], &mut file[..]);
     lists::write(lanes, mode, values, &mut file[length..]);
     Answer::accepted(length + bytes)
-}
-
-// How a list is to be packed, as the lanes, mode and first lines of a text say it, and how long these lines are.
-pub struct Packing {
-    pub refusal: Refusal,
-    pub lanes: u32,
-    pub mode: Mode,
-    pub length: usize,
-}
-
-// What the lanes, mode and first lines say that a text begins with; or 12, lanes 0, plain and length 0.
-pub fn settings(text: &[u8]) -> Packing
-    ensures { λ r. ⌜ r ≡ settingsAnswer (now (text .entry)) ⌝ }
-{
-    let none = Packing {
-        refusal: Refusal::BadHeader,
-        lanes: 0,
-        mode: Mode::Plain,
-        length: 0,
-    };
-    let header = header_in(text);
-    let lanes = header.lanes;
-    let mode = header.mode;
-    if !is_lanes(lanes as usize) {
-        return none;
-    }
-    let mut lines = [0u8; 64];
-    let length = put_settings(lanes, mode, &mut lines);
-    if !begins(&lines[..length], text) {
-        return none;
-    }
-    Packing {
-        refusal: Refusal::Accepted,
-        lanes,
-        mode,
-        length,
-    }
 }

@@ -2,29 +2,26 @@
 use mathlib.Core.Path.{_≡_, refl, sym, _∙_, ap}
 use mathlib.Core.Bool.{Bool, true, false, cond}
 use mathlib.Core.List.{List, [], _∷_}
-use Prim.Native.Nat.{ℕ, zero, suc, _%_, _^_, _≤_, _<_}
-use native.Mathlib.Nat.{mod-lt, mod-eq-of-lt}
+use Prim.Native.Nat.{ℕ, zero, suc, _^_, _≤_, _<_}
 use native.Mathlib.Omega.{arith}
+use borrow.Author.Tests.{ne-eqb}
+use lib.Dec.{eqb}
 use lib.ListN.{length, drop, length-append}
 use lib.Seq.{drop-at}
 use Rattle.layout.specs.Layout.{Below}
 use Rattle.layout.proofs.Below.{below-none, below-tail, below-cons}
-use Rattle.text.specs.declared.Numeral.{Numeral}
-use Rattle.text.specs.Text.{decimal, begins, numberAt, fieldAt}
-use Rattle.text.proofs.Decimals.{number-back}
+use Rattle.text.specs.Text.{decimal, begins, numberLine}
 use Rattle.text.proofs.Lines.{line-rest}
 use Rattle.text.proofs.Beginnings.{whole-begins}
+use Rattle.text.proofs.Found.{line-found, value-small}
 use Rattle.programs.specs.Lines.{valueLine, valueLines}
 use Rattle.programs.specs.kernel.Lines.{linesFrom, linesIn}
 use Rattle.programs.proofs.ValueLines.{line-some, lines-none}
 
 -- a value's line, with a rest behind it
 module _ (v : ℕ) (rest : List ℕ) where
-  field-first : v < 2 ^ 32 → fieldAt (valueLine v rest) 0 ≡ v
-  field-first small = ap (λ (t : Numeral). t .value % 2 ^ 32) (number-back (valueLine v rest) 0 v rest small refl) ∙ mod-eq-of-lt small
-
-  line-first : begins (valueLine v []) (valueLine v rest) ≡ true
-  line-first = ap (begins (valueLine v [])) (sym (line-rest "" (decimal v) rest)) ∙ whole-begins (valueLine v []) rest
+  line-first : v < 2 ^ 32 → numberLine [] (valueLine v rest) ≡ record { value = v; length = length (valueLine v []) }
+  line-first small = line-found [] (valueLine v rest) v small (ap (begins (valueLine v [])) (sym (line-rest "" (decimal v) rest)) ∙ whole-begins (valueLine v []) rest)
 
   line-behind : drop (length (valueLine v [])) (valueLine v rest) ≡ rest
   line-behind = ap (drop (length (valueLine v []))) (sym (line-rest "" (decimal v) rest)) ∙ drop-at (valueLine v []) rest (length (valueLine v [])) refl
@@ -34,7 +31,8 @@ unfolding linesFrom valueLines
 lines-back n [] h b = lines-none n
 lines-back zero (v ∷ vs) h b = absurd (omega arith)
 lines-back (suc n) (v ∷ vs) h b =
-    rw (field-first v (valueLines vs) (b 0), line-first v (valueLines vs), line-behind v (valueLines vs)) (ap (λ (t : List ℕ). v ∷ t) (lines-back n vs (omega arith) (below-tail v vs b)))
+    rw (line-first v (valueLines vs) (b 0), ne-eqb (length (valueLine v [])) 0 (λ z. omega (arith, z, line-some v)), line-behind v (valueLines vs))
+    (ap (λ (t : List ℕ). v ∷ t) (lines-back n vs (omega arith) (below-tail v vs b)))
 
 lines-many : (vs : List ℕ) → length vs ≤ length (valueLines vs)
 unfolding valueLines
@@ -47,11 +45,11 @@ values-found vs b = lines-back (length (valueLines vs)) vs (lines-many vs) b
 lines-small : (n : ℕ) (bs : List ℕ) → Below (2 ^ 32) (linesFrom n bs)
 unfolding linesFrom
 lines-small zero bs = below-none (omega arith)
-lines-small (suc n) bs = go (begins (valueLine (fieldAt bs 0) []) bs) (lines-small n (drop (length (valueLine (fieldAt bs 0) [])) bs))
+lines-small (suc n) bs = go (eqb (numberLine [] bs .length) 0) (lines-small n (drop (numberLine [] bs .length) bs))
   where
-    go : (t : Bool) → Below (2 ^ 32) (linesFrom n (drop (length (valueLine (fieldAt bs 0) [])) bs)) → Below (2 ^ 32) (cond t (fieldAt bs 0 ∷ linesFrom n (drop (length (valueLine (fieldAt bs 0) [])) bs)) [])
-    go true ih = below-cons (fieldAt bs 0) (linesFrom n (drop (length (valueLine (fieldAt bs 0) [])) bs)) (mod-lt (numberAt bs 0 .value) (omega arith)) ih
-    go false ih = below-none (omega arith)
+    go : (t : Bool) → Below (2 ^ 32) (linesFrom n (drop (numberLine [] bs .length) bs)) → Below (2 ^ 32) (cond t [] (numberLine [] bs .value ∷ linesFrom n (drop (numberLine [] bs .length) bs)))
+    go true ih = below-none (omega arith)
+    go false ih = below-cons (numberLine [] bs .value) (linesFrom n (drop (numberLine [] bs .length) bs)) (value-small [] bs) ih
 
 pub found-small : (bs : List ℕ) → Below (2 ^ 32) (linesIn bs)
 found-small bs = lines-small (length bs) bs

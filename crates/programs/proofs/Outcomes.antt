@@ -15,21 +15,19 @@ use Rattle.answers.specs.declared.Answer.{Answer}
 use Rattle.answers.specs.declared.Refusal.{Refusal}
 use Rattle.answers.specs.declared.Refusal.the-variants.{Accepted, TooMany, BadHeader}
 use Rattle.answers.specs.Refusals.{accepted}
-use Rattle.layout.specs.Layout.{isLanes}
-use Rattle.answers.proofs.Refusals.{apart, both}
+use Rattle.answers.proofs.Refusals.{both}
 use Rattle.layout.proofs.LaneCounts.{lanes-of}
-use Rattle.layout.proofs.Widths.{and-both}
 use Rattle.modes.specs.declared.Mode.{Mode}
 use Rattle.order.specs.Order.{most}
 use Rattle.bodies.proofs.Sizes.{length-list}
 use Rattle.lists.specs.Calls.{measureRefusal, measureAnswer}
 use Rattle.lists.proofs.Accepts.{Readable, read-exactly}
 use Rattle.text.specs.Text.{same}
-use Rattle.text.proofs.Beginnings.{begins-within}
 use Rattle.files.specs.declared.Packing.{Packing}
-use Rattle.files.specs.Opening.{bodyIn, headerRefusal, isSettings, settingsIn, noSettings, settingsAnswer}
-use Rattle.files.specs.kernel.Fields.{headerIn}
+use Rattle.files.specs.kernel.Finding.{settingsIn}
+use Rattle.files.specs.Opening.{isSettings, headerIn, bodyIn, headerRefusal}
 use Rattle.files.specs.Calls.{listIn, readRefusalOf, readAnswerOf, readOutputOf, fileFor, writeAnswerOf, writeOutputOf}
+use Rattle.files.proofs.Tests.{not-set}
 use Rattle.files.proofs.Theorems.{settings-sets}
 use Rattle.programs.specs.declared.lines.Lines.{Lines}
 use Rattle.programs.specs.Lines.{valueLines}
@@ -95,36 +93,12 @@ module _ (text : List ℕ) where
     not-sound h = sym (rw (le-ltb 65536 (length text) fits, h))
 
     -- the three lines
-    found : isSettings text ≡ true → settingsAnswer text ≡ record { refusal = Accepted; lanes = headerIn text .lanes; mode = headerIn text .mode; length = length (settingsIn text) }
-    found q = rw q
-
-    lost : isSettings text ≡ false → settingsAnswer text ≡ noSettings
-    lost q = rw q
-
-    module _ (p : Packing) (e : p ≡ settingsAnswer text) where
-      pub no-settings : accepted (p .refusal) ≡ false → refusedLine (p .refusal) ≡ textToList text
-      unfolding isText
-      no-settings h = go (isSettings text) refl
-        where
-          go : (b : Bool) → isSettings text ≡ b → refusedLine (p .refusal) ≡ textToList text
-          go true q = absurd (apart (sym (ap (λ (t : Packing). accepted (t .refusal)) (e ∙ found q)) ∙ h))
-          go false q =
-              let k : p .refusal ≡ BadHeader = ap (λ (t : Packing). t .refusal) (e ∙ lost q) in
-              ap refusedLine k ∙ not-sound (rw q)
-
-      pub is-settings : accepted (p .refusal) ≡ true → (isSettings text ≡ true) × (p ≡ record { refusal = Accepted; lanes = headerIn text .lanes; mode = headerIn text .mode; length = length (settingsIn text) })
-      is-settings h = go (isSettings text) refl
-        where
-          go : (b : Bool) → isSettings text ≡ b → (isSettings text ≡ true) × (p ≡ record { refusal = Accepted; lanes = headerIn text .lanes; mode = headerIn text .mode; length = length (settingsIn text) })
-          go true q = (q, e ∙ found q)
-          go false q = absurd (apart (sym h ∙ ap (λ (t : Packing). accepted (t .refusal)) (e ∙ lost q)))
+    pub no-settings : isSettings text ≡ false → refusedLine (settingsIn text .refusal) ≡ textToList text
+    unfolding isText
+    no-settings h = ap (λ (p : Packing). refusedLine (p .refusal)) (not-set text h) ∙ not-sound (rw h)
 
     -- and the values
     module _ (set : isSettings text ≡ true) where
-      pub settings-within : length (settingsIn text) ≤ length text
-      unfolding isSettings
-      settings-within = begins-within (settingsIn text) text (and-both (isLanes (headerIn text .lanes)) _ set .1)
-
       pub not-lines : same (valueLines (valuesIn text)) (restIn text) ≡ false → refusedLine BadHeader ≡ textToList text
       unfolding isText
       not-lines h = not-sound (rw (set, h))
@@ -134,15 +108,15 @@ module _ (text : List ℕ) where
         unfolding isText
         is-text = rw (set, sound)
 
-        pub list-out : output (measureRefusal (headerIn text .lanes) (headerIn text .mode) (valuesIn text)) (fileFor (headerIn text .lanes) (headerIn text .mode) (valuesIn text)) ≡ textToList text
+        pub list-out : output (measureRefusal (settingsIn text .lanes) (settingsIn text .mode) (valuesIn text)) (fileFor (settingsIn text .lanes) (settingsIn text .mode) (valuesIn text)) ≡ textToList text
         unfolding textToList
         list-out = sym (rw (le-ltb 65536 (length text) fits, is-text))
 
         pub too-many : most < length (valuesIn text) → refusedLine TooMany ≡ textToList text
         unfolding measureRefusal
         too-many h =
-            let k : measureRefusal (headerIn text .lanes) (headerIn text .mode) (valuesIn text) ≡ TooMany = rw (settings-sets text set .lanes, lt-ltb most (length (valuesIn text)) h) in
-            sym (ap (λ (t : Refusal). output t (fileFor (headerIn text .lanes) (headerIn text .mode) (valuesIn text))) k) ∙ list-out
+            let k : measureRefusal (settingsIn text .lanes) (settingsIn text .mode) (valuesIn text) ≡ TooMany = rw (settings-sets text set .lanes, lt-ltb most (length (valuesIn text)) h) in
+            sym (ap (λ (t : Refusal). output t (fileFor (settingsIn text .lanes) (settingsIn text .mode) (valuesIn text))) k) ∙ list-out
 
 -- what was told of the lines behind the settings
 pub record LinesTold (text before : List ℕ) (r : Lines) (after : List ℕ) : Type 0 where
@@ -150,7 +124,7 @@ pub record LinesTold (text before : List ℕ) (r : Lines) (after : List ℕ) : T
   pub count : r .count ≡ length (valuesIn text)
   pub values : after ≡ over (take (length before) (valuesIn text)) before
 
-pub lines-told : (text before : List ℕ) (n : ℕ) → n ≡ length (settingsIn text) → (r : Lines) (after : List ℕ)
+pub lines-told : (text before : List ℕ) (n : ℕ) → n ≡ settingsIn text .length → (r : Lines) (after : List ℕ)
     → (r ≡ record { sound = same (valueLines (linesIn (midOf n (length text - n) text))) (midOf n (length text - n) text); count = length (linesIn (midOf n (length text - n) text)) }) × (after ≡ over (take (length before) (linesIn (midOf n (length text - n) text))) before)
     → LinesTold text before r after
 lines-told text before n e r after h =

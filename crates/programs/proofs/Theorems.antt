@@ -29,14 +29,13 @@ use Rattle.text.proofs.Lines.{number-line-short}
 use Rattle.text.proofs.Beginnings.{same-is, is-same}
 use Rattle.files.specs.declared.heading.Header.{Header}
 use Rattle.files.specs.Header.{settings, headerText, Heads}
-use Rattle.files.specs.kernel.Fields.{headerIn}
-use Rattle.files.specs.Opening.{bodyIn, isFile, isSettings}
+use Rattle.files.specs.declared.Packing.{Packing}
+use Rattle.files.specs.kernel.Finding.{settingsIn}
+use Rattle.files.specs.Opening.{isSettings, headerIn, bodyIn, isFile}
 use Rattle.files.specs.Calls.{listIn, readRefusalOf, headerFor, fileFor}
 use Rattle.files.proofs.Lines.{settings-rest, settings-short, header-short}
 use Rattle.files.proofs.Filing.{file-splits}
-use Rattle.files.proofs.Found.{fields-found}
-use Rattle.files.proofs.Tests.{filed}
-use Rattle.files.proofs.Theorems.{sets-found, sets-settings, rest-found, settings-sets, heads-file, body-found, opened, held, same-file, file-accepted, file-list-back}
+use Rattle.files.proofs.Theorems.{settings-back, rest-found, settings-sets, header-heads, fields-found, heads-file, body-found, opened, held, same-file, file-accepted, file-list-back}
 use Rattle.programs.specs.Lines.{valueLines}
 use Rattle.programs.specs.kernel.Lines.{linesIn}
 use Rattle.programs.specs.Programs.{refusedLine, output, sizeRefusal, fileRefusal, listToText, IsText, restIn, valuesIn, isText, textRefusal, textToList, isOne, HasOne, outAnswer, outLeft}
@@ -53,37 +52,36 @@ module _ {text : List ℕ} {L : ℕ} {m : Mode} {vs : List ℕ} (t : IsText text
 
   pub text-sound : isText text ≡ true
   unfolding isText
-  text-sound = rw (sets-settings (t .sets), text-values, rest-found (t .sets)) (is-same (valueLines vs))
+  text-sound = rw (ap (λ (p : Packing). accepted (p .refusal)) (settings-back (t .sets)), text-values, rest-found (t .sets)) (is-same (valueLines vs))
 
 -- and what is found writes the text
-pub sound-text : (text : List ℕ) → isText text ≡ true → IsText text (headerIn text .lanes) (headerIn text .mode) (valuesIn text)
+pub sound-text : (text : List ℕ) → isText text ≡ true → IsText text (settingsIn text .lanes) (settingsIn text .mode) (valuesIn text)
 unfolding isText
 sound-text text h =
     let a = and-both (isSettings text) _ h in
     let s = settings-sets text (a .0) in
     let e : restIn text ≡ valueLines (valuesIn text) = same-is (valueLines (valuesIn text)) (restIn text) (a .1) in
     record {
-      sets = record { lanes = s .lanes; mode = s .mode; first = s .first; whole = s .whole ∙ ap (settings (headerIn text .lanes) (headerIn text .mode)) e };
+      sets = record { lanes = s .lanes; mode = s .mode; first = s .first; whole = s .whole ∙ ap (settings (settingsIn text .lanes) (settingsIn text .mode)) e };
       values = found-small (restIn text);
     }
 
 -- taken as sound are exactly the texts that some lanes, mode, first and values write
 pub texts-exactly : (text : List ℕ) → (isText text ≡ true) ↔ ((L : ℕ) × ((m : Mode) × ((vs : List ℕ) × IsText text L m vs)))
-texts-exactly text = (λ h. (headerIn text .lanes, (headerIn text .mode, (valuesIn text, sound-text text h))), λ x. text-sound (x .1 .1 .1))
+texts-exactly text = (λ h. (settingsIn text .lanes, (settingsIn text .mode, (valuesIn text, sound-text text h))), λ x. text-sound (x .1 .1 .1))
 
 -- what text_to_list writes for a sound text that is not too long: the list's file, or the first of 7 and 8 that applies
 pub text-told : {text : List ℕ} {L : ℕ} {m : Mode} {vs : List ℕ} → IsText text L m vs → length text ≤ 65536 → textToList text ≡ output (measureRefusal L m vs) (fileFor L m vs)
 unfolding textToList
 text-told {text} {L} {m} {vs} t fits =
-    let f = sets-found (t .sets) in
-    rw (le-ltb 65536 (length text) fits, text-sound t, f .0, f .1, text-values t)
+    rw (le-ltb 65536 (length text) fits, text-sound t, text-values t, settings-back (t .sets))
 
 -- what list_to_text writes for a file that is not too long: the list's values, or the first number that reading gives
 pub file-told : {file : List ℕ} {h : Header} {body : List ℕ} → Heads file h body → length file ≤ 65536
     → listToText file ≡ output (readRefusal (h .lanes) (h .mode) (h .count) body most) (valueLines (listOf (h .lanes) (h .mode) (h .count) body))
 unfolding listToText
 file-told {file} {h} {body} hd fits =
-    rw (le-ltb 65536 (length file) fits, heads-file hd, fields-found file h body hd, body-found hd)
+    rw (le-ltb 65536 (length file) fits, heads-file hd, fields-found hd, body-found hd)
 
 -- how much goes out at most
 
@@ -118,8 +116,8 @@ file-length L m vs h =
 pub file-short : (text : List ℕ) → length (textToList text) ≤ 16593
 unfolding textToList
 file-short text =
-    output-short (textRefusal text) (fileFor (headerIn text .lanes) (headerIn text .mode) (valuesIn text)) 16593 (omega arith)
-    (λ h. file-length (headerIn text .lanes) (headerIn text .mode) (valuesIn text) (passed (not (isText text)) BadHeader (measureRefusal (headerIn text .lanes) (headerIn text .mode) (valuesIn text)) refl (both (sizeRefusal text) _ h .1) .1))
+    output-short (textRefusal text) (fileFor (settingsIn text .lanes) (settingsIn text .mode) (valuesIn text)) 16593 (omega arith)
+    (λ h. file-length (settingsIn text .lanes) (settingsIn text .mode) (valuesIn text) (passed (not (isText text)) BadHeader (measureRefusal (settingsIn text .lanes) (settingsIn text .mode) (valuesIn text)) refl (both (sizeRefusal text) _ h .1) .1))
 
 -- so with that much room 4 is not the answer of a call, and all of it goes out
 pub whole-answer : (t : List ℕ) (room : ℕ) → length t ≤ room → outAnswer t room ≡ record { refusal = Accepted; length = length t }
@@ -156,7 +154,7 @@ file-numbers file =
     go : (b : Bool) → isFile file ≡ b → HasOne (0 ∷ 12 ∷ 7 ∷ 5 ∷ 2 ∷ 10 ∷ 9 ∷ 8 ∷ 11 ∷ []) (readRefusalOf file most)
     go false q = rw q
     go true q =
-        rw (q, filed file q .lanes)
+        rw (q, header-heads file q .sound .lanes)
         (tests (ltb most (headerIn file .count)) (bodyRefusal (headerIn file .lanes) (starting (headerIn file .mode)) (headerIn file .count) (bodyIn file))
         (body-only Mine refl refl refl refl refl refl refl (headerIn file .lanes) (starting (headerIn file .mode)) (headerIn file .count) (bodyIn file)))
 
@@ -169,11 +167,11 @@ text-numbers text =
     Mine : Refusal → Type 0
     Mine = HasOne (0 ∷ 12 ∷ 7 ∷ 8 ∷ [])
 
-    go : (b : Bool) → isText text ≡ b → HasOne (0 ∷ 12 ∷ 7 ∷ 8 ∷ []) (refuse (not (isText text)) BadHeader (measureRefusal (headerIn text .lanes) (headerIn text .mode) (valuesIn text)))
+    go : (b : Bool) → isText text ≡ b → HasOne (0 ∷ 12 ∷ 7 ∷ 8 ∷ []) (refuse (not (isText text)) BadHeader (measureRefusal (settingsIn text .lanes) (settingsIn text .mode) (valuesIn text)))
     go false q = rw q
     go true q =
         rw (q, sound-text text q .sets .lanes)
-        (refused Mine (ltb most (length (valuesIn text))) TooMany _ refl (refused Mine (not (ordered (starting (headerIn text .mode)) (valuesIn text))) OutOfOrder Accepted refl refl))
+        (refused Mine (ltb most (length (valuesIn text))) TooMany _ refl (refused Mine (not (ordered (starting (settingsIn text .mode)) (valuesIn text))) OutOfOrder Accepted refl refl))
 
 -- "Number 4 does not arise in the programs."
 pub file-not-four : (file : List ℕ) → numberOf (fileRefusal file) ≡ 4 → ⊥

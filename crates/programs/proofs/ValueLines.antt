@@ -14,10 +14,12 @@ use Rattle.layout.specs.Layout.{at}
 use Rattle.answers.specs.Answers.{over}
 use Rattle.answers.proofs.Parts.{part-is, part-length}
 use Rattle.answers.proofs.Fronts.{take-more, Front, front-none, front-length, front-put, front-part}
-use Rattle.text.specs.Text.{word, decimal, begins, same, fitted, fieldAt}
+use Rattle.text.specs.declared.Numeral.{Numeral}
+use Rattle.text.specs.Text.{word, decimal, begins, same, fitted, numberLine}
 use Rattle.text.proofs.Decimals.{decimal-some}
 use Rattle.text.proofs.Lines.{put-whole, number-line-short, line-rest}
-use Rattle.text.proofs.Beginnings.{begins-short, begins-whole, is-same}
+use Rattle.text.proofs.Beginnings.{begins-whole, is-same}
+use Rattle.text.proofs.Found.{Numbered, line-there, line-within}
 use Rattle.programs.specs.declared.lines.Lines.{Lines}
 use Rattle.programs.specs.Lines.{valueLine, valueLines}
 use Rattle.programs.specs.kernel.Lines.{linesFrom, linesIn}
@@ -104,30 +106,13 @@ reading-none bs before = record { done = []; size = refl; far = refl; text = ref
     take-of-nil zero = refl
     take-of-nil (suc n) = refl
 
-lines-stop : (n : ℕ) (bs : List ℕ) → begins (valueLine (fieldAt bs 0) []) bs ≡ false → linesFrom n bs ≡ []
+lines-stop : (n : ℕ) (bs : List ℕ) → numberLine [] bs .length ≡ 0 → linesFrom n bs ≡ []
 unfolding linesFrom
 lines-stop zero bs h = refl
 lines-stop (suc n) bs h = rw h
 
 pub lines-none : (n : ℕ) → linesFrom n [] ≡ []
-lines-none n = lines-stop n [] (begins-short (valueLine (fieldAt [] 0) []) [] (line-some (fieldAt [] 0)))
-
--- what the length of a line tells that was looked for at a place
-pub record LineTold (bs : List ℕ) (place n : ℕ) : Type 0 where
-  pub none : n ≡ 0 → begins (valueLine (fieldAt bs place) []) (drop place bs) ≡ false
-  pub some : (n ≡ 0 → ⊥) → begins (valueLine (fieldAt bs place) []) (drop place bs) ≡ true
-  pub long : (n ≡ 0 → ⊥) → n ≡ length (valueLine (fieldAt bs place) [])
-
-pub line-told : (bs : List ℕ) (place v n : ℕ) → v ≡ fieldAt bs place → n ≡ cond (begins (valueLine v []) (midOf place (length bs - place) bs)) (length (valueLine v [])) 0 → LineTold bs place n
-line-told bs place v n e h = go (begins (valueLine (fieldAt bs place) []) (drop place bs)) refl (h ∙ rw (e, part-is place bs))
-  where
-    go : (b : Bool) → begins (valueLine (fieldAt bs place) []) (drop place bs) ≡ b → n ≡ cond (begins (valueLine (fieldAt bs place) []) (drop place bs)) (length (valueLine (fieldAt bs place) [])) 0 → LineTold bs place n
-    go true q k =
-        let m : n ≡ length (valueLine (fieldAt bs place) []) = k ∙ rw q in
-        record { none = λ z. absurd (omega (arith, z, m, line-some (fieldAt bs place))); some = λ z. q; long = λ z. m }
-    go false q k =
-        let m : n ≡ 0 = k ∙ rw q in
-        record { none = λ z. q; some = λ z. absurd (z m); long = λ z. absurd (z m) }
+lines-none n = lines-stop n [] (omega (arith, line-within [] []))
 
 module _ {bs before : List ℕ} {place count : ℕ} {out : List ℕ} (r : Reading bs before place count out) where
   pub reading-length : length out ≡ length before
@@ -146,7 +131,7 @@ module _ {bs before : List ℕ} {place count : ℕ} {out : List ℕ} (r : Readin
       (rw (q, n), r .here .here ∙ ap (λ (t : List ℕ). over (take (length before) t) before) (sym e))
 
   -- a line that is none
-  pub reading-stop : place < length bs → begins (valueLine (fieldAt bs place) []) (drop place bs) ≡ false → (_≡_ {A = Lines} (record { sound = false; count = count }) (record { sound = same (valueLines (linesIn bs)) bs; count = length (linesIn bs) })) × (out ≡ over (take (length before) (linesIn bs)) before)
+  pub reading-stop : place < length bs → numberLine [] (drop place bs) .length ≡ 0 → (_≡_ {A = Lines} (record { sound = false; count = count }) (record { sound = same (valueLines (linesIn bs)) bs; count = length (linesIn bs) })) × (out ≡ over (take (length before) (linesIn bs)) before)
   reading-stop lt h =
       let differ : eqb (length (valueLines (r .done))) (length bs) ≡ false = ne-eqb (length (valueLines (r .done))) (length bs) (λ e. omega (arith, r .far, e, lt)) in
       told false (ended (lines-stop (length bs - count) (drop place bs) h)) (and-no (begins (valueLines (r .done)) bs) differ)
@@ -164,47 +149,41 @@ module _ {bs before : List ℕ} {place count : ℕ} {out : List ℕ} (r : Readin
       told true (ended stop) (ap (same (valueLines (r .done))) all ∙ is-same (valueLines (r .done)))
 
   -- a line more
-  module _ (lt : place < length bs) (h : begins (valueLine (fieldAt bs place) []) (drop place bs) ≡ true) where
-    abbrev value : ℕ
-    value = fieldAt bs place
+  module _ (lt : place < length bs) (l : Numeral) (is : l ≡ numberLine [] (drop place bs)) (some : l .length ≡ 0 → ⊥) where
+    line : Numbered [] (drop place bs) l
+    line = rw is (line-there [] (drop place bs) (rw is at some))
 
-    next-done : List ℕ
-    next-done = r .done ++ (fieldAt bs place ∷ [])
-
-    kept : {ys : List ℕ} → ys ≡ cond (ltb count (length out)) (set out count (fieldAt bs place)) out → Front (take (length before) (r .done ++ (fieldAt bs place ∷ []))) before ys
+    kept : {ys : List ℕ} → ys ≡ cond (ltb count (length out)) (set out count (l .value)) out → Front (take (length before) (r .done ++ (l .value ∷ []))) before ys
     kept {ys} e = go (decLt count (length before))
       where
-        go : Dec (count < length before) → Front (take (length before) (r .done ++ (fieldAt bs place ∷ []))) before ys
-        go (yes some) =
+        go : Dec (count < length before) → Front (take (length before) (r .done ++ (l .value ∷ []))) before ys
+        go (yes room) =
             let all : take (length before) (r .done) ≡ r .done = take-all (length before) (r .done) (omega (arith, r .size)) in
-            let more : take (length before) (r .done ++ (value ∷ [])) ≡ r .done ++ (value ∷ []) = take-all (length before) (r .done ++ (value ∷ [])) (omega (arith, length-append (r .done) (value ∷ []), r .size)) in
+            let more : take (length before) (r .done ++ (l .value ∷ [])) ≡ r .done ++ (l .value ∷ []) = take-all (length before) (r .done ++ (l .value ∷ [])) (omega (arith, length-append (r .done) (l .value ∷ []), r .size)) in
             let old : Front (r .done) before out = rw all at (r .here) in
-            let e′ : ys ≡ set out count value = e ∙ rw (lt-ltb count (length out) (omega (arith, reading-length))) in
-            rw (more, e′) (front-put old count (r .size) value some)
+            let e′ : ys ≡ set out count (l .value) = e ∙ rw (lt-ltb count (length out) (omega (arith, reading-length))) in
+            rw (more, e′) (front-put old count (r .size) (l .value) room)
         go (no full) =
-            let same-front : take (length before) (r .done ++ (value ∷ [])) ≡ take (length before) (r .done) = take-append-le (length before) (r .done) (value ∷ []) (omega (arith, r .size)) in
+            let same-front : take (length before) (r .done ++ (l .value ∷ [])) ≡ take (length before) (r .done) = take-append-le (length before) (r .done) (l .value ∷ []) (omega (arith, r .size)) in
             let e′ : ys ≡ out = e ∙ rw (le-ltb count (length out) (omega (arith, reading-length))) in
             rw (same-front, e′) (r .here)
 
-    longer : {ys : List ℕ} → ys ≡ cond (ltb count (length out)) (set out count (fieldAt bs place)) out → Reading bs before (place + length (valueLine (fieldAt bs place) [])) (count + 1) ys
+    pub reading-more : {ys : List ℕ} → ys ≡ cond (ltb count (length out)) (set out count (l .value)) out → Reading bs before (place + l .length) (count + 1) ys
     unfolding linesFrom
-    longer {ys} e =
-        let n : ℕ = length (valueLine value []) in
-        let lines : valueLines (r .done ++ (value ∷ [])) ≡ valueLines (r .done) ++ valueLine value [] = lines-more (r .done) value in
-        let rest : drop place bs ≡ valueLine value [] ++ drop (place + n) bs = begins-whole (valueLine value []) (drop place bs) h ∙ ap (λ (t : List ℕ). valueLine value [] ++ t) (drop-drop n place bs) in
+    reading-more {ys} e =
+        let lines : valueLines (r .done ++ (l .value ∷ [])) ≡ valueLines (r .done) ++ valueLine (l .value) [] = lines-more (r .done) (l .value) in
+        let rest : drop place bs ≡ valueLine (l .value) [] ++ drop (place + l .length) bs =
+        begins-whole (valueLine (l .value) []) (drop place bs) (line .there) ∙ ap (λ (n : ℕ). valueLine (l .value) [] ++ drop n (drop place bs)) (sym (line .size)) ∙ ap (λ (t : List ℕ). valueLine (l .value) [] ++ t) (drop-drop (l .length) place bs) in
         let left : length bs - count ≡ suc (length bs - (count + 1)) = omega (arith, r .fewer) in
         record {
-          done = r .done ++ (value ∷ []);
-          size = length-append (r .done) (value ∷ []) ∙ ap (λ (t : ℕ). t + 1) (r .size);
-          far = ap length lines ∙ length-append (valueLines (r .done)) (valueLine value []) ∙ ap (λ (t : ℕ). t + n) (r .far);
-          text = r .text ∙ ap (λ (t : List ℕ). valueLines (r .done) ++ t) rest ∙ sym (append-assoc (valueLines (r .done)) (valueLine value []) (drop (place + n) bs)) ∙ ap (λ (t : List ℕ). t ++ drop (place + n) bs) (sym lines);
-          fewer = omega (arith, r .fewer, line-some value);
+          done = r .done ++ (l .value ∷ []);
+          size = length-append (r .done) (l .value ∷ []) ∙ ap (λ (t : ℕ). t + 1) (r .size);
+          far = ap length lines ∙ length-append (valueLines (r .done)) (valueLine (l .value) []) ∙ rw (r .far, ← line .size);
+          text = r .text ∙ ap (λ (t : List ℕ). valueLines (r .done) ++ t) rest ∙ sym (append-assoc (valueLines (r .done)) (valueLine (l .value) []) (drop (place + l .length) bs)) ∙ ap (λ (t : List ℕ). t ++ drop (place + l .length) bs) (sym lines);
+          fewer = omega (arith, r .fewer, some);
           onward =
               r .onward
               ∙ ap (λ (t : ℕ). r .done ++ linesFrom t (drop place bs)) left
-              ∙ rw (h, drop-drop n place bs) (sym (append-assoc (r .done) (value ∷ []) (linesFrom (length bs - (count + 1)) (drop (place + n) bs))));
+              ∙ rw (← is, ne-eqb (l .length) 0 some, drop-drop (l .length) place bs) (sym (append-assoc (r .done) (l .value ∷ []) (linesFrom (length bs - (count + 1)) (drop (place + l .length) bs))));
           here = kept e;
         }
-
-    pub reading-more : (n : ℕ) → n ≡ length (valueLine (fieldAt bs place) []) → {ys : List ℕ} → ys ≡ cond (ltb count (length out)) (set out count (fieldAt bs place)) out → Reading bs before (place + n) (count + 1) ys
-    reading-more n is e = rw is (longer e)

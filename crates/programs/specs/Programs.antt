@@ -16,8 +16,8 @@ use Rattle.order.specs.Order.{most}
 use Rattle.lists.specs.Calls.{measureRefusal}
 use Rattle.text.specs.Text.{decimal, line, same}
 use Rattle.files.specs.Header.{Sets}
-use Rattle.files.specs.Opening.{settingsIn, isSettings}
-use Rattle.files.specs.kernel.Fields.{headerIn}
+use Rattle.files.specs.Opening.{isSettings}
+use Rattle.files.specs.kernel.Finding.{settingsIn}
 use Rattle.files.specs.Calls.{listIn, readRefusalOf, fileFor}
 use Rattle.programs.specs.Lines.{valueLines}
 use Rattle.programs.specs.kernel.Lines.{linesIn}
@@ -55,7 +55,7 @@ pub record IsText (text : List ℕ) (L : ℕ) (m : Mode) (vs : List ℕ) : Type 
 
 -- what stands behind the three lines, and the values of its lines
 abbrev pub restIn : List ℕ → List ℕ
-restIn text = drop (length (settingsIn text)) text
+restIn text = drop (settingsIn text .length) text
 
 abbrev pub valuesIn : List ℕ → List ℕ
 valuesIn text = linesIn (restIn text)
@@ -69,11 +69,11 @@ abbrev pub textRefusal : List ℕ → Refusal
 textRefusal text =
     orElse (sizeRefusal text)
     (refuse (not (isText text)) BadHeader
-    (measureRefusal (headerIn text .lanes) (headerIn text .mode) (valuesIn text)))
+    (measureRefusal (settingsIn text .lanes) (settingsIn text .mode) (valuesIn text)))
 
 -- ".. and writes a file or that same line."
 unfoldable pub textToList : List ℕ → List ℕ
-textToList text = output (textRefusal text) (fileFor (headerIn text .lanes) (headerIn text .mode) (valuesIn text))
+textToList text = output (textRefusal text) (fileFor (settingsIn text .lanes) (settingsIn text .mode) (valuesIn text))
 
 -- whether a refusal has one of some numbers: "Number 4 does not arise in the programs" (proofs/Theorems, file-numbers, text-numbers)
 unfoldable pub isOne : List ℕ → ℕ → Bool

@@ -1,16 +1,14 @@
 // One value a line, written and read.
-use text::begins;
-use text::field;
+use text::number_line;
 use text::put_number_line;
 ghost use mathlib.Core.Path.{_≡_};
 ghost use mathlib.Core.Bool.{cond};
-ghost use mathlib.Core.List.{[]};
 ghost use Prim.Native.Nat.{_*_, _≤_};
 ghost use lib.Dec.{ltb};
 ghost use lib.ListN.{length, set, take};
 ghost use Rattle.answers.specs.Answers.{over};
-ghost use Rattle.text.specs.Text.{begins, same};
-ghost use Rattle.programs.specs.Lines.{valueLine, valueLines};
+ghost use Rattle.text.specs.Text.{same};
+ghost use Rattle.programs.specs.Lines.{valueLines};
 ghost use Rattle.programs.specs.kernel.Lines.{linesIn};
 
 // The values, one a line. Answers the length of the text.
@@ -24,18 +22,6 @@ pub(crate) fn put_values(values: &[u32], out: &mut [u8]) -> usize
     while i < values.len() {
         length += put_number_line(b"", values[i], &mut out[length..]);
         i += 1;
-    }
-    length
-}
-
-// The length of the value's line where the bytes begin with it, and else 0.
-fn line_length(value: u32, bytes: &[u8]) -> usize
-    ensures { λ r. ⌜ r ≡ cond (begins (valueLine value []) (now (bytes .entry))) (length (valueLine value [])) 0 ⌝ }
-{
-    let mut line = [0u8; 16];
-    let length = put_number_line(b"", value, &mut line);
-    if !begins(&line[..length], bytes) {
-        return 0;
     }
     length
 }
@@ -63,15 +49,15 @@ pub(crate) fn read_values(bytes: &[u8], values: &mut [u32]) -> Lines
     let mut place: usize = 0;
     let mut count: usize = 0;
     while place < bytes.len() {
-        let value = field(bytes, place);
-        let length = line_length(value, &bytes[place..]);
+        let line = number_line(b"", &bytes[place..]);
+        let length = line.length;
         if length == 0 {
             return Lines {
                 sound: false,
                 count,
             };
         }
-        keep(value, count, &mut values[..]);
+        keep(line.value, count, &mut values[..]);
         count += 1;
         place += length;
     }

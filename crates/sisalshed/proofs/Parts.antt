@@ -1,51 +1,31 @@
 -- Where a body stands in its file.
-use mathlib.Core.Path.{_≡_, sym, _∙_, ap}
-use mathlib.Core.Bool.{Bool, true, false, not}
+use mathlib.Core.Path.{_≡_, _∙_, ap}
+use mathlib.Core.Bool.{true, false}
 use mathlib.Core.List.{List}
-use Prim.Native.Nat.{ℕ, _+_, _-_, _≤_}
+use Prim.Native.Nat.{ℕ, _+_, _-_}
 use native.Mathlib.Omega.{arith}
-use lib.ListN.{length, length-append}
-use Rattle.answers.specs.declared.Refusal.the-variants.{Accepted, BadHeader}
-use Rattle.answers.specs.Refusals.{numberOf, accepted, refuse}
-use Rattle.text.proofs.Beginnings.{begins-whole}
+use lib.ListN.{length, length-drop}
+use Rattle.answers.specs.Refusals.{numberOf, accepted}
+use Rattle.files.specs.declared.Found.{Found}
 use Rattle.files.specs.declared.Opened.{Opened}
-use Rattle.files.specs.Header.{headerText}
-use Rattle.files.specs.kernel.Fields.{headerIn}
-use Rattle.files.specs.Opening.{bodyIn, isFile, headerAnswer, openAnswer}
-use Rattle.files.proofs.Tests.{filed}
+use Rattle.files.specs.kernel.Finding.{headerFound}
+use Rattle.files.specs.Opening.{bodyIn, fileFound}
+use Rattle.files.proofs.Tests.{start-within, told, is-found, header-told}
 use Rattle.sisalshed.specs.declared.CBody.{CBody}
 use Rattle.sisalshed.specs.Calls.{bodyCrossed}
 
--- what the header call accepts is a file
-as-accepted : (b r : Bool) → accepted (refuse (not b) BadHeader Accepted) ≡ r → b ≡ r
-as-accepted true r h = h
-as-accepted false r h = h
+-- a file is what stands before its body, and its body
+pub two-parts : (file : List ℕ) → length file ≡ headerFound file .start + length (bodyIn file)
+two-parts file = omega (arith, start-within file, length-drop (headerFound file .start) file)
 
-module _ (file : List ℕ) where
-  -- a file is its header's text and its body
-  pub two-parts : isFile file ≡ true → length file ≡ length (headerText (headerIn file)) + length (bodyIn file)
-  unfolding bodyIn
-  two-parts f = ap length (begins-whole (headerText (headerIn file)) file (filed file f .text)) ∙ length-append (headerText (headerIn file)) _
+-- f is what was found of a file, and n its number
+module _ (file : List ℕ) {f : Found} (e : f ≡ fileFound file) {n : ℕ} (number : n ≡ numberOf (f .refusal)) where
+  pub no-body : accepted (f .refusal) ≡ false → _≡_ {A = CBody} (record { number = n; start = 0; length = 0 }) (bodyCrossed file)
+  no-body a =
+      ap (λ (x : ℕ). record { number = x; start = 0; length = 0 }) (number ∙ ap (λ (o : Opened). numberOf (o .refusal)) (header-told file f e)) ∙ rw (told file f e false a)
 
-  module _ {o : Opened} (e : o ≡ headerAnswer file) {n : ℕ} (number : n ≡ numberOf (o .refusal)) where
-    said : n ≡ numberOf (headerAnswer file .refusal)
-    said = number ∙ ap (λ (x : Opened). numberOf (x .refusal)) e
-
-    file-if : (r : Bool) → accepted (o .refusal) ≡ r → isFile file ≡ r
-    file-if r a = as-accepted (isFile file) r (ap (λ (x : Opened). accepted (x .refusal)) (sym e) ∙ a)
-
-    pub no-body : accepted (o .refusal) ≡ false → _≡_ {A = CBody} (record { number = n; start = 0; length = 0 }) (bodyCrossed file)
-    no-body a = ap (λ (x : ℕ). record { number = x; start = 0; length = 0 }) said ∙ rw (file-if false a)
-
-    module _ (a : accepted (o .refusal) ≡ true) {body : List ℕ} (b : body ≡ openAnswer file) where
-      is-body : body ≡ bodyIn file
-      is-body = b ∙ rw (file-if true a)
-
-      pub body-within : length body ≤ length file
-      body-within = rw (is-body, two-parts (file-if true a)) (omega arith)
-
-      pub some-body : _≡_ {A = CBody} (record { number = n; start = length file - length body; length = length body }) (bodyCrossed file)
-      some-body =
-          let f = file-if true a in
-          let s : length file - length body ≡ length (headerText (headerIn file)) = rw (is-body, two-parts f) (omega arith) in
-          rw (s, said, is-body, f)
+  pub some-body : accepted (f .refusal) ≡ true → _≡_ {A = CBody} (record { number = n; start = f .start; length = length file - f .start }) (bodyCrossed file)
+  some-body a =
+      let is = told file f e true a in
+      ap (λ (x : ℕ). record { number = x; start = f .start; length = length file - f .start }) (number ∙ ap (λ (o : Opened). numberOf (o .refusal)) (header-told file f e))
+      ∙ rw (is, is-found file f e is, length-drop (headerFound file .start) file)

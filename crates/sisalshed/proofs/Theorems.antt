@@ -26,7 +26,6 @@ mode-back (Strict (Number f)) = refl
 
 -- the bytes that the answer points at are the part that document 01 hands back
 pub part-is-body : (file : List ℕ) → take (bodyCrossed file .length) (drop (bodyCrossed file .start) file) ≡ openAnswer file
-unfolding bodyIn
 part-is-body file = go (isFile file) refl
   where
     go : (b : Bool) → isFile file ≡ b → take (bodyCrossed file .length) (drop (bodyCrossed file .start) file) ≡ openAnswer file
@@ -35,7 +34,7 @@ part-is-body file = go (isFile file) refl
 
 -- and go to the end of the file
 pub part-to-the-end : (file : List ℕ) → isFile file ≡ true → bodyCrossed file .start + bodyCrossed file .length ≡ length file
-part-to-the-end file f = rw f (sym (two-parts file f))
+part-to-the-end file f = rw f (sym (two-parts file))
 
 -- the numbers are those of the header's enum
 pub number-known : (k : Refusal) → numberOf k ≤ 12

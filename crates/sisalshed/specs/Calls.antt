@@ -7,9 +7,7 @@ use lib.ListN.{length}
 use Rattle.answers.specs.Refusals.{numberOf}
 use Rattle.blocks.specs.Calls.{sizeAnswer, packAnswer, packOutput, unpackAnswer, unpackOutput, widthAnswer}
 use Rattle.lists.specs.Calls.{measureAnswer, writeAnswer, writeOutput, readAnswer, readOutput}
-use Rattle.files.specs.Header.{headerText}
-use Rattle.files.specs.Opening.{isFile, headerRefusal, headerAnswer, openAnswer}
-use Rattle.files.specs.kernel.Fields.{headerIn}
+use Rattle.files.specs.Opening.{fileFound, headerRefusal, headerAnswer, openAnswer}
 use Rattle.files.specs.Calls.{readAnswerOf, readOutputOf, writeAnswerOf, writeOutputOf}
 use Rattle.sisalshed.specs.declared.CAnswer.{CAnswer}
 use Rattle.sisalshed.specs.declared.CHeader.{CHeader}
@@ -57,9 +55,9 @@ headerCrossed file =
     let h = headerAnswer file .header in
     record { number = numberOf (headerAnswer file .refusal); lanes = h .lanes; kind = kindOf (h .mode); first = firstGiven (h .mode); count = h .count; bytes = h .bytes }
 
--- "from after the empty line to the end": where the header's text ends, and how long the part is that is handed back
+-- "from after the empty line to the end": where the body starts, and how long the part is that is handed back
 abbrev pub bodyCrossed : List ℕ → CBody
-bodyCrossed file = record { number = numberOf (headerRefusal file); start = cond (isFile file) (length (headerText (headerIn file))) 0; length = length (openAnswer file) }
+bodyCrossed file = record { number = numberOf (headerRefusal file); start = fileFound file .start; length = length (openAnswer file) }
 
 abbrev pub readFileCrossed : List ℕ → ℕ → CAnswer
 readFileCrossed file room = crossed (readAnswerOf file room)

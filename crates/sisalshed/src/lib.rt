@@ -200,8 +200,8 @@ pub extern "C" fn sisalshed_header(file: &[u8]) -> CHeader
 pub extern "C" fn sisalshed_body(file: &[u8]) -> CBody
     ensures { λ r. ⌜ r ≡ bodyCrossed (now (file .entry)) ⌝ }
 {
-    let opened = files::header(file);
-    let refusal = opened.refusal;
+    let found = files::find_file(file);
+    let refusal = found.refusal;
     let number = refusal.number();
     if !refusal.is_accepted() {
         return CBody {
@@ -210,11 +210,11 @@ pub extern "C" fn sisalshed_body(file: &[u8]) -> CBody
             length: 0,
         };
     }
-    let length = files::open(file).len();
+    let start = found.start;
     CBody {
         number,
-        start: file.len() - length,
-        length,
+        start,
+        length: file.len() - start,
     }
 }
 

@@ -56,6 +56,17 @@ unfolding begins
 whole-begins [] rest = refl
 whole-begins (x ∷ t) rest = rw (eq-eqb x x refl) (whole-begins t rest)
 
+-- a text and another behind it
+pub begins-append : (t u bs : List ℕ) → begins (t ++ u) bs ≡ begins t bs && begins u (drop (length t) bs)
+unfolding begins
+begins-append [] u bs = refl
+begins-append (x ∷ t) u [] = refl
+begins-append (x ∷ t) u (b ∷ bs) = go (eqb x b) (begins-append t u bs)
+  where
+    go : (e : Bool) → begins (t ++ u) bs ≡ begins t bs && begins u (drop (length t) bs) → e && begins (t ++ u) bs ≡ (e && begins t bs) && begins u (drop (length t) bs)
+    go true rest = rest
+    go false rest = refl
+
 -- bytes are the same as a text exactly where they are equal to it
 pub same-is : (t bs : List ℕ) → same t bs ≡ true → bs ≡ t
 same-is t bs h =

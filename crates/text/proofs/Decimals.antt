@@ -1,17 +1,14 @@
 -- Decimal digits: written the highest first, and read back.
 use mathlib.Core.Path.{_≡_, refl, sym, _∙_, ap}
-use mathlib.Core.Bool.{Bool, true, false, _&&_, cond}
 use mathlib.Core.List.{List, [], _∷_, _++_}
 use Prim.Native.Nat.{ℕ, zero, suc, _+_, _*_, _-_, _/_, _%_, _^_, _≤_, _<_}
-use native.Mathlib.Nat.{pow-suc, pow-succ', div-div-eq-div-mul, div-lt-iff-lt-mul, div-one}
+use native.Mathlib.Nat.{pow-suc, pow-succ', div-div-eq-div-mul, div-lt-iff-lt-mul, div-one, mod-eq-of-lt}
 use native.Mathlib.Numerals.{add-one}
 use native.Mathlib.Omega.{arith}
 use native.Mathlib.Decide.{decLt}
 use borrow.Author.Tests.{lt-ltb, le-ltb, le-leb, lt-leb}
-use lib.Dec.{leb}
-use lib.ListN.{length, drop, length-append}
-use Rattle.layout.specs.Layout.{at}
-use Rattle.text.specs.Text.{digits, places, decimal, fitted, leading, valueFrom, numberAt}
+use lib.ListN.{length, length-append}
+use Rattle.text.specs.Text.{digits, places, decimal, fitted, leading, valueFrom, numberIn}
 
 -- digits
 
@@ -97,26 +94,12 @@ leading-digits (suc k) n (suc most) rest h =
     let d : ℕ = 48 + n / 10 ^ k % 10 in
     rw (digits-front k n, le-leb 48 d (omega arith), le-leb d 57 (omega arith)) (ap (λ (t : List ℕ). d ∷ t) (leading-digits k n most rest (omega arith)))
 
--- a number that stands at place i with byte 10 behind it is read
-pub number-back : (bs : List ℕ) (i n : ℕ) (rest : List ℕ) → n < 2 ^ 32 → drop i bs ≡ decimal n ++ (10 ∷ rest) → numberAt bs i ≡ record { value = n; length = length (decimal n) }
+-- a number with byte 10 behind it is read
+pub number-back : (n : ℕ) (rest : List ℕ) → n < 2 ^ 32 → numberIn (decimal n ++ (10 ∷ rest)) ≡ n
 unfolding decimal
-number-back bs i n rest h e =
-    let l : leading 10 (drop i bs) ≡ decimal n = rw e (leading-digits (places 9 n) n 10 rest (places-few 9 n)) in
-    rw l (ap (λ (v : ℕ). record { value = v; length = length (decimal n) }) (decimal-value n h))
-
--- a number that is read has at most ten digits
-leading-few : (most : ℕ) (bs : List ℕ) → length (leading most bs) ≤ most
-unfolding leading
-leading-few zero bs = omega arith
-leading-few (suc most) [] = omega arith
-leading-few (suc most) (b ∷ bs) = go (leb 48 b && leb b 57) (leading-few most bs)
-  where
-    go : (t : Bool) → length (leading most bs) ≤ most → length (cond t (b ∷ leading most bs) []) ≤ suc most
-    go true h = omega arith
-    go false h = omega arith
-
-pub number-short : (bs : List ℕ) (i : ℕ) → numberAt bs i .length ≤ 10
-number-short bs i = leading-few 10 (drop i bs)
+number-back n rest h =
+    let l : leading 10 (decimal n ++ (10 ∷ rest)) ≡ decimal n = leading-digits (places 9 n) n 10 rest (places-few 9 n) in
+    ap (λ (ds : List ℕ). valueFrom 0 ds % 2 ^ 32) l ∙ rw (decimal-value n h) (mod-eq-of-lt h)
 
 -- a text is put where there is room for it
 pub fitted-all : (t before : List ℕ) → length t ≤ length before → fitted t before ≡ t
@@ -124,14 +107,3 @@ fitted-all t before h = rw (le-leb (length t) (length before) h)
 
 pub fitted-none : (t before : List ℕ) → length before < length t → fitted t before ≡ []
 fitted-none t before h = rw (lt-leb (length t) (length before) h)
-
--- a number begins with a digit, and not with a letter n
-pub decimal-head : (n : ℕ) (rest : List ℕ) → at (decimal n ++ rest) 0 ≡ 110 → ⊥
-unfolding decimal
-decimal-head n rest e = go (places 9 n) (places-some 9 n) e
-  where
-    go : (k : ℕ) → 0 < k → at (digits k n ++ rest) 0 ≡ 110 → ⊥
-    go zero pos q = omega arith
-    go (suc k) pos q =
-        let d : 48 + n / 10 ^ k % 10 ≡ 110 = sym (ap (λ (t : List ℕ). at (t ++ rest) 0) (digits-front k n)) ∙ q in
-        omega arith

@@ -12,10 +12,8 @@ use Rattle.text.proofs.put_number_line.Reads as put-number-line
 use Rattle.text.proofs.put_number_line.Kinds as put-number-line-kinds
 use Rattle.text.proofs.begins.Reads as begins
 use Rattle.text.proofs.begins.Kinds as begins-kinds
-use Rattle.text.proofs.number.Reads as number
-use Rattle.text.proofs.number.Kinds as number-kinds
-use Rattle.text.proofs.field.Reads as field
-use Rattle.text.proofs.field.Kinds as field-kinds
+use Rattle.text.proofs.number_line.Reads as number-line
+use Rattle.text.proofs.number_line.Kinds as number-line-kinds
 
 put-asks-nothing : AsksNothing put-kinds.ps put.Pre
 put-asks-nothing κs a = tt
@@ -47,14 +45,8 @@ begins-asks-nothing κs a = tt
 begins-determined : AnswerDetermined begins-kinds.ps begins-kinds.r begins.Post
 begins-determined κs a z z′ e e′ p q = p ∙ sym q
 
-number-asks-nothing : AsksNothing number-kinds.ps number.Pre
-number-asks-nothing κs a = tt
+number-line-asks-nothing : AsksNothing number-line-kinds.ps number-line.Pre
+number-line-asks-nothing κs a = tt
 
-number-determined : AnswerDetermined number-kinds.ps number-kinds.r number.Post
-number-determined κs a z z′ e e′ p q = p ∙ sym q
-
-field-asks-nothing : AsksNothing field-kinds.ps field.Pre
-field-asks-nothing κs a = tt
-
-field-determined : AnswerDetermined field-kinds.ps field-kinds.r field.Post
-field-determined κs a z z′ e e′ p q = p ∙ sym q
+number-line-determined : AnswerDetermined number-line-kinds.ps number-line-kinds.r number-line.Post
+number-line-determined κs a z z′ e e′ p q = p ∙ sym q

@@ -3,4 +3,5 @@ pub mod Spelling
 pub mod Numbers
 pub mod Lines
 pub mod Beginnings
+pub mod Found
 pub mod Determined

@@ -9,7 +9,7 @@ use borrow.Rule.Slice.PartMut.{midOf, putMid}
 use Rattle.answers.specs.Answers.{over}
 use Rattle.answers.proofs.Parts.{part-length}
 use Rattle.answers.proofs.Fronts.{Front, front-length, front-put, front-part}
-use Rattle.text.specs.Text.{word, decimal, fitted, line}
+use Rattle.text.specs.Text.{word, decimal, fitted, line, numbered}
 use Rattle.text.proofs.Decimals.{fitted-all, decimal-short}
 
 -- a name, a value behind it, and byte 10: `out` with the name is out₁, and ys came back as its part behind the name
@@ -81,3 +81,6 @@ number-line-short name x = rw (length-append, length-append) (omega (arith, deci
 -- a line with a rest behind it is the line, and the rest
 pub line-rest : (name : String) (value rest : List ℕ) → line name value [] ++ rest ≡ line name value rest
 line-rest name value rest = append-assoc (word name) (value ++ (10 ∷ [])) rest ∙ ap (λ (t : List ℕ). word name ++ t) (append-assoc value (10 ∷ []) rest)
+
+pub numbered-rest : (name : List ℕ) (v : ℕ) (rest : List ℕ) → numbered name v ++ rest ≡ name ++ (decimal v ++ (10 ∷ rest))
+numbered-rest name v rest = append-assoc name (decimal v ++ (10 ∷ [])) rest ∙ ap (λ (t : List ℕ). name ++ t) (append-assoc (decimal v) (10 ∷ []) rest)

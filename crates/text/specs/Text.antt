@@ -31,6 +31,10 @@ decimal n = digits (places 9 n) n
 abbrev pub line : S.String → List ℕ → List ℕ → List ℕ
 line name value rest = word name ++ (value ++ (10 ∷ rest))
 
+-- the line of a name and a number
+abbrev pub numbered : List ℕ → ℕ → List ℕ
+numbered name n = name ++ (decimal n ++ (10 ∷ []))
+
 -- whether bs begins with the text t
 unfoldable pub begins : List ℕ → List ℕ → Bool
 begins [] bs = true
@@ -56,10 +60,13 @@ unfoldable pub valueFrom : ℕ → List ℕ → ℕ
 valueFrom n [] = n
 valueFrom n (d ∷ ds) = valueFrom (n * 10 + (d - 48)) ds
 
--- the number that stands at place i of bs, as far as ten digits go, and how many digits it has: 0 and none where there is none
-abbrev pub numberAt : List ℕ → ℕ → Numeral
-numberAt bs i = record { value = valueFrom 0 (leading 10 (drop i bs)); length = length (leading 10 (drop i bs)) }
+-- the number that bs begins with, as far as ten digits go; one that is too great becomes another, whose text is another too
+abbrev pub numberIn : List ℕ → ℕ
+numberIn bs = valueFrom 0 (leading 10 bs) % 2 ^ 32
 
--- the number at a place; one that is too great becomes another, whose text is another too
-abbrev pub fieldAt : List ℕ → ℕ → ℕ
-fieldAt bs i = numberAt bs i .value % 2 ^ 32
+-- the line of a name and a number that bs begins with: the number, and the line's length; 0 and 0 where there is none. It is the line of
+-- the number that stands behind the name: that any such line is found is a law (proofs/Found, line-found).
+unfoldable pub numberLine : List ℕ → List ℕ → Numeral
+numberLine name bs =
+    let n = numberIn (drop (length name) bs) in
+    cond (begins (numbered name n) bs) (record { value = n; length = length (numbered name n) }) (record { value = 0; length = 0 })

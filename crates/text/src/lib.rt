@@ -1,10 +1,10 @@
-// Words, decimal numbers and lines as bytes: written at the front of an output, and read from a place on.
+// Words, decimal numbers and lines as bytes: written at the front of an output, and found at the front of some bytes.
 ghost use mathlib.Core.Path.{_≡_};
 ghost use mathlib.Core.List.{[], _∷_, _++_};
 ghost use Prim.Native.Nat.{ℕ, _+_, _-_, _^_, _≤_};
 ghost use lib.ListN.{length};
 ghost use Rattle.answers.specs.Answers.{over};
-ghost use Rattle.text.specs.Text.{places, decimal, fitted, begins, numberAt, fieldAt};
+ghost use Rattle.text.specs.Text.{places, decimal, numbered, fitted, begins, leading, valueFrom, numberIn, numberLine};
 
 // The word at the front of `out`, where there is room for it. Answers its length, and 0 where there is none.
 pub fn put(word: &[u8], out: &mut [u8]) -> usize
@@ -42,7 +42,7 @@ fn spell(x: u32, out: &mut [u8]) -> usize
     let mut power = top_power(x);
     let mut i: usize = 0;
     while 0 < power {
-        out[i] = (48 + x / power % 10) as u8;
+        out[i] = b'0' + (x / power % 10) as u8;
         power = power / 10;
         i += 1;
     }
@@ -67,7 +67,7 @@ fn spell_line(name: &[u8], value: &[u8], out: &mut [u8]) -> usize
 {
     let named = put(name, &mut out[..]);
     let length = named + put(value, &mut out[named..]);
-    out[length] = 10;
+    out[length] = b'\n';
     length + 1
 }
 
@@ -87,8 +87,8 @@ pub fn put_line(name: &[u8], value: &[u8], out: &mut [u8]) -> usize
 
 // The line of a name and x in decimal behind it, in the same way.
 pub fn put_number_line(name: &[u8], x: u32, out: &mut [u8]) -> usize
-    ensures { λ r. ⌜ r ≡ length (fitted (now (name .entry) ++ (decimal x ++ (10 ∷ []))) (now (out .entry))) ⌝ }
-    ensures { λ r. ⌜ now (out .exit) ≡ over (fitted (now (name .entry) ++ (decimal x ++ (10 ∷ []))) (now (out .entry))) (now (out .entry)) ⌝ }
+    ensures { λ r. ⌜ r ≡ length (fitted (numbered (now (name .entry)) x) (now (out .entry))) ⌝ }
+    ensures { λ r. ⌜ now (out .exit) ≡ over (fitted (numbered (now (name .entry)) x) (now (out .entry))) (now (out .entry)) ⌝ }
 {
     let mut digits = [0u8; 10];
     let length = put_decimal(x, &mut digits);
@@ -112,41 +112,64 @@ pub fn begins(text: &[u8], bytes: &[u8]) -> bool
     true
 }
 
-// A number that was read, and how many digits it has.
-pub struct Numeral {
-    pub value: usize,
-    pub length: usize,
-}
-
-// The number at place `at`: at most ten digits.
-pub fn number(bytes: &[u8], at: usize) -> Numeral
-    ensures { λ r. ⌜ r ≡ numberAt (now (bytes .entry)) at ⌝ }
+// The number that the digits stand for that the bytes begin with, ten of them at most.
+fn ten_digits(bytes: &[u8]) -> usize
+    ensures { λ r. ⌜ r ≡ valueFrom 0 (leading 10 (now (bytes .entry))) ⌝ }
 {
     let mut value: usize = 0;
     let mut i: usize = 0;
     while i < 10 {
-        if bytes.len() <= at {
-            return Numeral { value, length: i };
+        if bytes.len() <= i {
+            return value;
         }
-        if bytes.len() - at <= i {
-            return Numeral { value, length: i };
+        let digit = bytes[i];
+        if digit < b'0' {
+            return value;
         }
-        let digit = bytes[at + i];
-        if digit < 48 {
-            return Numeral { value, length: i };
+        if b'9' < digit {
+            return value;
         }
-        if 57 < digit {
-            return Numeral { value, length: i };
-        }
-        value = value * 10 + (digit - 48) as usize;
+        value = value * 10 + (digit - b'0') as usize;
         i += 1;
     }
-    Numeral { value, length: i }
+    value
 }
 
-// The number at place `at`, modulo 4,294,967,296. One that is too great becomes another, whose text is another too.
-pub fn field(bytes: &[u8], at: usize) -> u32
-    ensures { λ r. ⌜ r ≡ fieldAt (now (bytes .entry)) at ⌝ }
+// That number modulo 4,294,967,296. One that is too great becomes another, whose text is another too.
+fn number(bytes: &[u8]) -> u32
+    ensures { λ r. ⌜ r ≡ numberIn (now (bytes .entry)) ⌝ }
 {
-    (number(bytes, at).value % 4294967296) as u32
+    (ten_digits(bytes) % 4294967296) as u32
+}
+
+// The number of a line, and the line's length.
+pub struct Numeral {
+    pub value: u32,
+    pub length: usize,
+}
+
+// The line of the name and a number that the bytes begin with; 0 and length 0 where they begin with none.
+pub fn number_line(name: &[u8], bytes: &[u8]) -> Numeral
+    ensures { λ r. ⌜ r ≡ numberLine (now (name .entry)) (now (bytes .entry)) ⌝ }
+{
+    if !begins(name, bytes) {
+        return Numeral {
+            value: 0,
+            length: 0,
+        };
+    }
+    let named = name.len();
+    let value = number(&bytes[named..]);
+    let mut digits = [0u8; 11];
+    let length = put_number_line(b"", value, &mut digits);
+    if !begins(&digits[..length], &bytes[named..]) {
+        return Numeral {
+            value: 0,
+            length: 0,
+        };
+    }
+    Numeral {
+        value,
+        length: named + length,
+    }
 }

@@ -1,7 +1,9 @@
 -- 12, and then as a list.
-use mathlib.Core.Path.{sym, _∙_}
+use mathlib.Core.Path.{_≡_, sym, _∙_}
+use mathlib.Core.Bool.{true}
 use borrow.Author.Tests.{not-true, not-false}
-use Rattle.files.proofs.Tests.{bad-file, good-file}
+use Rattle.files.specs.Opening.{isFile}
+use Rattle.files.proofs.Tests.{told, part-within, part-told, bad-file, good-file}
 use borrow.Author.Needs.{needs}
 use Rattle.files.proofs.read.Statement.{statement}
 use Rattle.files.proofs.read.Tie as tie
@@ -9,15 +11,29 @@ use Rattle.files.proofs.read.Tie as tie
 returns : tie.Need-returns
 returns c =
     let t = c .before in
-    bad-file _ _ (sym (t .before .is-file .ensures) ∙ not-true _ (t .if1 .taken)) (c .refused .ensures)
+    let i = t .before in
+    let f = i .before in
+    let s = f .before .before .before in
+    bad-file (s .args .file .now) _ (f .find-file .ensures) (sym (i .is-accepted .ensures) ∙ not-true _ (t .if1 .taken)) (s .args .values .now) (c .refused .ensures)
+
+abbrev start : tie.Else1 → tie.Start
+start e = e .before .before .before .before .before
+
+good : (e : tie.Else1) → isFile (start e .args .file .now) ≡ true
+good e = told (start e .args .file .now) _ (e .before .before .find-file .ensures) _ (sym (e .before .is-accepted .ensures) ∙ not-false _ (e .if1 .left))
+
+sub-read : tie.Need-sub-read
+sub-read c = part-within (start (c .before) .args .file .now) _ (c .before .before .before .find-file .ensures)
+
+part-read-start : tie.Need-part-read-start
+part-read-start c = part-within (start (c .before) .args .file .now) _ (c .before .before .before .find-file .ensures)
 
 returns-2 : tie.Need-returns-2
 returns-2 c =
     let r = c .before .before in
-    let o = r .before .before in
-    let e = o .before .before in
-    let s = e .before .before .before .before in
-    good-file (s .args .file .now) (s .args .values .now) (sym (e .before .is-file .ensures) ∙ not-false _ (e .if1 .left)) (o .before .header-in .ensures) (o .«open» .ensures) (r .read .ensures .0) (r .read .ensures .1)
+    let e = r .before .before .before .before in
+    let s = start e in
+    good-file (s .args .file .now) _ (e .before .before .find-file .ensures) (good e) (s .args .values .now) (part-told (s .args .file .now) _ (e .before .before .find-file .ensures) (good e)) (r .read .ensures .0) (r .read .ensures .1)
 
 pub read-spec : {M : Type 1} → statement M
 read-spec =
@@ -25,10 +41,12 @@ read-spec =
     (tie.spec
     (search needs)
     (search needs)
+    (search needs)
     returns
     (search needs)
     (search needs)
-    (search needs)
+    sub-read
+    part-read-start
     (search needs)
     (search needs)
     (search needs)

@@ -6,14 +6,15 @@ use native.Mathlib.Omega.{arith}
 use borrow.Author.Tests.{not-true, not-false}
 use lib.ListN.{length, take, replicate}
 use lib.Seq.{length-take-le}
-use Rattle.answers.specs.declared.Refusal.the-variants.{Accepted}
+use Rattle.answers.specs.Refusals.{accepted}
 use Rattle.lists.specs.Calls.{measureRefusal}
 use Rattle.files.specs.declared.Packing.{Packing}
-use Rattle.files.specs.Opening.{isSettings, settingsIn}
-use Rattle.files.specs.kernel.Fields.{headerIn}
+use Rattle.files.specs.Opening.{isSettings}
+use Rattle.files.specs.kernel.Finding.{settingsIn}
 use Rattle.files.specs.Calls.{fileFor}
-use Rattle.programs.specs.Programs.{output, valuesIn}
-use Rattle.programs.proofs.Outcomes.{out-is, text-too-long, no-settings, is-settings, settings-within, not-lines, too-many, list-out, LinesTold, lines-told, values-kept}
+use Rattle.files.proofs.Tests.{settings-within}
+use Rattle.programs.specs.Programs.{refusedLine, output, valuesIn}
+use Rattle.programs.proofs.Outcomes.{out-is, text-too-long, no-settings, not-lines, too-many, list-out, LinesTold, lines-told, values-kept}
 use borrow.Author.Needs.{needs}
 use Rattle.programs.proofs.text_to_list.Statement.{statement}
 use Rattle.programs.proofs.text_to_list.Tie as tie
@@ -25,6 +26,10 @@ returns c =
     let s = t .before .before .before in
     out-is (text-too-long (s .args .text .now) (t .if1 .taken)) (s .args .out .now) (r .refuse .ensures)
 
+-- what the settings told
+said : (i : tie.After-is-accepted) → i .is-accepted .result ≡ isSettings (i .before .before .before .before .before .args .text .now)
+said i = i .is-accepted .ensures ∙ ap (λ (p : Packing). accepted (p .refusal)) (i .before .settings .ensures)
+
 returns-2 : tie.Need-returns-2
 returns-2 c =
     let r = c .before .before in
@@ -33,26 +38,16 @@ returns-2 c =
     let g = i .before in
     let e = g .before in
     let s = e .before .before .before in
-    out-is (no-settings (s .args .text .now) (e .if1 .left) _ (g .settings .ensures) (sym (i .is-accepted .ensures) ∙ not-true _ (t .if2 .taken))) (s .args .out .now) (r .refuse2 .ensures)
+    out-is (ap (λ (p : Packing). refusedLine (p .refusal)) (g .settings .ensures) ∙ no-settings (s .args .text .now) (e .if1 .left) (sym (said i) ∙ not-true _ (t .if2 .taken))) (s .args .out .now) (r .refuse2 .ensures)
 
 abbrev start : tie.Else2 → tie.Start
 start c = c .before .before .before .before .before .before
 
--- the settings are there
-found : (c : tie.Else2) → (isSettings (start c .args .text .now) ≡ true) × (c .before .before .settings .result ≡ record { refusal = Accepted; lanes = headerIn (start c .args .text .now) .lanes; mode = headerIn (start c .args .text .now) .mode; length = length (settingsIn (start c .args .text .now)) })
-found c =
-    let i = c .before in
-    let g = i .before in
-    let e = g .before in
-    is-settings (e .before .before .before .args .text .now) (e .if1 .left) _ (g .settings .ensures) (sym (i .is-accepted .ensures) ∙ not-false _ (c .if2 .left))
-
-far : (c : tie.Else2) → c .before .before .settings .result .length ≡ length (settingsIn (start c .args .text .now))
-far c = ap (λ (t : Packing). t .length) (found c .1)
+set : (c : tie.Else2) → isSettings (start c .args .text .now) ≡ true
+set c = sym (said (c .before)) ∙ not-false _ (c .if2 .left)
 
 within : (c : tie.Else2) → c .before .before .settings .result .length ≤ length (start c .args .text .now)
-within c =
-    let e = c .before .before .before in
-    omega (arith, far c, settings-within (e .before .before .before .args .text .now) (e .if1 .left) (found c .0))
+within c = settings-within (start c .args .text .now) _ (c .before .before .settings .ensures) (sym (c .before .is-accepted .ensures) ∙ not-false _ (c .if2 .left))
 
 sub-read-values : tie.Need-sub-read-values
 sub-read-values c = within c
@@ -64,7 +59,7 @@ part-read-values-start c = within c
 told : (c : tie.After-read-values) → LinesTold (start (c .before .before .before) .args .text .now) (replicate 4096 0) (c .read-values .result) (c .read-values .last .1 .0)
 told c =
     let e = c .before .before .before in
-    lines-told (start e .args .text .now) (replicate 4096 0) _ (far e) (c .read-values .result) (c .read-values .last .1 .0) (c .read-values .ensures)
+    lines-told (start e .args .text .now) (replicate 4096 0) _ (ap (λ (p : Packing). p .length) (e .before .before .settings .ensures)) (c .read-values .result) (c .read-values .last .1 .0) (c .read-values .ensures)
 
 returns-3 : tie.Need-returns-3
 returns-3 c =
@@ -74,7 +69,7 @@ returns-3 c =
     let e = v .before .before .before in
     let f = e .before .before .before in
     let s = f .before .before .before in
-    out-is (not-lines (s .args .text .now) (f .if1 .left) (found e .0) (sym (told v .sound) ∙ not-true _ (t .if3 .taken))) (s .args .out .now) (r .refuse3 .ensures)
+    out-is (not-lines (s .args .text .now) (f .if1 .left) (set e) (sym (told v .sound) ∙ not-true _ (t .if3 .taken))) (s .args .out .now) (r .refuse3 .ensures)
 
 returns-4 : tie.Need-returns-4
 returns-4 c =
@@ -85,7 +80,7 @@ returns-4 c =
     let e = v .before .before .before in
     let f = e .before .before .before in
     let s = f .before .before .before in
-    out-is (too-many (s .args .text .now) (f .if1 .left) (found e .0) (sym (told v .sound) ∙ not-false _ (n .if3 .left)) (rw (← told v .count) (t .if4 .taken))) (s .args .out .now) (r .refuse4 .ensures)
+    out-is (too-many (s .args .text .now) (f .if1 .left) (set e) (sym (told v .sound) ∙ not-false _ (n .if3 .left)) (rw (← told v .count) (t .if4 .taken))) (s .args .out .now) (r .refuse4 .ensures)
 
 values-within : (c : tie.Else4) → c .before .before .before .before .read-values .result .count ≤ length (c .before .before .before .before .read-values .last .1 .0)
 values-within c = omega (arith, c .if4 .left, c .before .before .before .before .read-values .kept)
@@ -107,10 +102,10 @@ returns-5 c =
     let s = f .before .before .before in
     let text = s .args .text .now in
     let vs : take (v .read-values .result .count) (v .read-values .last .1 .0) ≡ valuesIn text = values-kept (replicate 4096 0) (valuesIn text) (v .read-values .last .1 .0) (v .read-values .result .count) (sym (told v .count)) (m .if4 .left) (told v .values) in
-    let p = found e .1 in
+    let p = e .before .before .settings .ensures in
     let same-list : output (measureRefusal (e .before .before .settings .result .lanes) (e .before .before .settings .result .mode) (take (v .read-values .result .count) (v .read-values .last .1 .0))) (fileFor (e .before .before .settings .result .lanes) (e .before .before .settings .result .mode) (take (v .read-values .result .count) (v .read-values .last .1 .0)))
-    ≡ output (measureRefusal (headerIn text .lanes) (headerIn text .mode) (valuesIn text)) (fileFor (headerIn text .lanes) (headerIn text .mode) (valuesIn text)) = rw (p, vs) in
-    out-is (same-list ∙ list-out text (f .if1 .left) (found e .0) (sym (told v .sound) ∙ not-false _ (n .if3 .left))) (s .args .out .now) (h .hand-out-file .ensures)
+    ≡ output (measureRefusal (settingsIn text .lanes) (settingsIn text .mode) (valuesIn text)) (fileFor (settingsIn text .lanes) (settingsIn text .mode) (valuesIn text)) = rw (p, vs) in
+    out-is (same-list ∙ list-out text (f .if1 .left) (set e) (sym (told v .sound) ∙ not-false _ (n .if3 .left))) (s .args .out .now) (h .hand-out-file .ensures)
 
 pub text-to-list-spec : {M : Type 1} → statement M
 text-to-list-spec =

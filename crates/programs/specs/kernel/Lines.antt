@@ -3,14 +3,16 @@
 use mathlib.Core.Bool.{cond}
 use mathlib.Core.List.{List, [], _∷_}
 use Prim.Native.Nat.{ℕ, zero, suc}
+use lib.Dec.{eqb}
 use lib.ListN.{length, drop}
-use Rattle.text.specs.Text.{begins, fieldAt}
-use Rattle.programs.specs.Lines.{valueLine}
+use Rattle.text.specs.Text.{numberLine}
 
--- line after line, as long as the bytes begin with the line of the number that they begin with; at most `most` of them
+-- line after line, as long as the bytes begin with the line of a number; at most `most` of them
 unfoldable pub linesFrom : ℕ → List ℕ → List ℕ
 linesFrom zero bs = []
-linesFrom (suc most) bs = cond (begins (valueLine (fieldAt bs 0) []) bs) (fieldAt bs 0 ∷ linesFrom most (drop (length (valueLine (fieldAt bs 0) [])) bs)) []
+linesFrom (suc most) bs =
+    let l = numberLine [] bs in
+    cond (eqb (l .length) 0) [] (l .value ∷ linesFrom most (drop (l .length) bs))
 
 abbrev pub linesIn : List ℕ → List ℕ
 linesIn bs = linesFrom (length bs) bs

@@ -4,7 +4,7 @@
     python3 checks/lists.py cases > crates/lists_check/stdin
     python3 checks/lists.py > crates/lists_check/stdout
 
-The first part is the two list calls as document 01 has them. The second does with a case what the program does with it. The third is
+The first part is the list calls as document 01 has them, and those on a part of a body. The second does with a case what the program does with it. The third is
 the table of cases.
 """
 import functools
@@ -137,6 +137,82 @@ def write(lanes, mode, values, room):
     return 0, len(body), body
 
 
+def starting(mode):
+    """The mode with which the first block is read: the list's, but for its bound."""
+    return mode[0], bound_on_first(mode)
+
+
+def past(mode, values):
+    """The mode past some values: "the previous value of a block's first is the last value of the block before." """
+    return mode if mode[0] == "plain" or not values else (mode[0], values[-1])
+
+
+def frame(lanes, body):
+    """The refusal, and how many bytes a block has. "5 (no width byte), 2, 5." """
+    if lanes not in (1, 4, 8):
+        return 1, 0
+    if len(body) < 1:
+        return 5, 0
+    if body[0] > 32:
+        return 2, 0
+    if len(body) < 1 + 4 * lanes * body[0]:
+        return 5, 0
+    return 0, 1 + 4 * lanes * body[0]
+
+
+def block_read(lanes, mode, left, body):
+    """The refusal, the bytes of the block, and the values that it has of those that are left. "5 (no width byte), 2, 5, 10, 9, 8." """
+    refusal, length = frame(lanes, body)
+    if refusal != 0:
+        return refusal, 0, []
+    entries = entries_in(lanes, body[0], body[1:length])
+    if any(entries[left:]):
+        return 10, 0, []
+    if body[0] != least_width(entries):
+        return 9, 0, []
+    values, previous, before = [], first_number(mode), mode[1]
+    for entry in entries[:left]:
+        previous = value_of(mode, previous, entry)
+        if not may_follow(mode, before, previous):
+            return 8, 0, []
+        values.append(previous)
+        before = previous
+    return 0, length, values
+
+
+def check_block(lanes, mode, left, body):
+    """Where reading of one block stops: the refusal, the blocks taken, the place where they end, the values left, and the mode past them."""
+    if lanes not in (1, 4, 8):
+        return 1, 0, 0, 0, mode
+    refusal, length, values = block_read(lanes, mode, left, body)
+    return refusal, int(refusal == 0), length, left - len(values), past(mode, values)
+
+
+def read_block(lanes, mode, left, body, room):
+    """The refusal, how many values, and these. 1, 4; then 5, 2, 5, 10, 9, 8. """
+    if lanes not in (1, 4, 8):
+        return 1, 0, []
+    if room < min(left, 32 * lanes):
+        return 4, 0, []
+    refusal, _, values = block_read(lanes, mode, left, body)
+    return refusal, len(values), values
+
+
+def check(lanes, mode, count, body):
+    """Where reading stops. "1, 7, ..; then block by block 5 (no width byte), 2, 5, 10, 9, 8; at the end 11." """
+    if lanes not in (1, 4, 8):
+        return 1, 0, 0, 0, mode
+    if count > 4096:
+        return 7, 0, 0, 0, mode
+    blocks, place, left, mode = 0, 0, count, starting(mode)
+    while left > 0:
+        refusal, _, length, left, mode = check_block(lanes, mode, left, body[place:])
+        if refusal != 0:
+            return refusal, blocks, place, left, mode
+        blocks, place = blocks + 1, place + length
+    return 11 if place < len(body) else 0, blocks, place, left, mode
+
+
 def read(lanes, mode, count, body, room):
     """The refusal, the count, and the values that are written. "Read a list: 1, 7, 4; then block by block 5 (no width byte), 2, 5,
     10, 9, 8; at the end 11." """
@@ -146,28 +222,12 @@ def read(lanes, mode, count, body, room):
         return 7, 0, []
     if room < count:
         return 4, 0, []
-    values, previous, before = [], first_number(mode), bound_on_first(mode)
+    values, mode = [], starting(mode)
     while len(values) < count:
-        if len(body) < 1:
-            return 5, 0, []
-        n = body[0]
-        if n > 32:
-            return 2, 0, []
-        if len(body) < 1 + 4 * lanes * n:
-            return 5, 0, []
-        entries = entries_in(lanes, n, body[1:1 + 4 * lanes * n])
-        body = body[1 + 4 * lanes * n:]
-        left = count - len(values)
-        if any(entries[left:]):
-            return 10, 0, []
-        if n != least_width(entries):
-            return 9, 0, []
-        for entry in entries[:left]:
-            value = value_of(mode, previous, entry)
-            if not may_follow(mode, before, value):
-                return 8, 0, []
-            values.append(value)
-            previous = before = value
+        refusal, length, more = block_read(lanes, mode, count - len(values), body)
+        if refusal != 0:
+            return refusal, 0, []
+        body, values, mode = body[length:], values + more, past(mode, more)
     if len(body) > 0:
         return 11, 0, []
     return 0, count, values
@@ -265,12 +325,44 @@ def list_case(lanes, mode, count, values, odd=None, next=None):
     return [f"list={shown(values)}", f"write={';'.join(writes)}", f"body={body[:12].hex()}", f"read={';'.join(reads)}"]
 
 
-def body_case(lanes, mode, count, packed, values, end, odd=None, next=None, byte=None, then=None, room=VALUES, **others):
-    """A body that may be wrong is read up to its end, with the lanes `as`."""
+def damaged_body(lanes, packed, values, end, odd=None, next=None, byte=None, then=None):
+    """A body that may be wrong, up to its end."""
     bytes_there = bytearray(packed_body(lanes, packed, values, odd, next)) + bytes([BYTE_MARK])
     put(bytes_there, byte, then)
-    body = bytes(bytes_there[:end])
-    return [f"body={checksum(body)}:{body[:12].hex()}", f"read={was_read(others['as'], mode, count, body, room)}"]
+    return bytes(bytes_there[:end])
+
+
+def body_case(lanes, mode, count, room=VALUES, **others):
+    """A body that may be wrong is read with the lanes `as`."""
+    lanes_given = others.pop("as")
+    body = damaged_body(lanes, **others)
+    return [f"body={checksum(body)}:{body[:12].hex()}", f"read={was_read(lanes_given, mode, count, body, room)}"]
+
+
+def stop_of(refusal, blocks, place, left, mode):
+    """Where reading stops, with the mode as `plain`, `sorted:5` or `strict:none`."""
+    first = [] if mode[0] == "plain" else ["none" if mode[1] is None else str(mode[1])]
+    return ",".join(str(number) for number in (refusal, blocks, place, left)) + "," + ":".join([mode[0]] + first)
+
+
+def stop_case(lanes, mode, count, **others):
+    """Such a body is checked with the lanes `as`."""
+    lanes_given = others.pop("as")
+    body = damaged_body(lanes, **others)
+    return [f"body={checksum(body)}:{body[:12].hex()}", f"stop={stop_of(*check(lanes_given, mode, count, body))}"]
+
+
+def part_case(lanes, mode, count, start, room=VALUES, **others):
+    """Of such a body the block at `start` is framed, checked and read by itself, where so many values are left."""
+    lanes_given = others.pop("as")
+    body = damaged_body(lanes, **others)[start:]
+    refusal, length, values = read_block(lanes_given, mode, count, body, room)
+    return [
+        f"body={checksum(body)}:{body[:12].hex()}",
+        "frame={},{}".format(*frame(lanes_given, body)),
+        f"stop={stop_of(*check_block(lanes_given, mode, count, body))}",
+        f"read={refusal},{length},{buffer_sum(values, VALUE_MARK, room)}:{shown(values)}",
+    ]
 
 
 def change_case(lanes, mode, count, values):
@@ -288,7 +380,7 @@ def change_case(lanes, mode, count, values):
     return [f"outcomes={shown(outcomes, 14)}"]
 
 
-CASES = {"list": list_case, "body": body_case, "change": change_case}
+CASES = {"list": list_case, "body": body_case, "change": change_case, "stop": stop_case, "part": part_case}
 
 
 # ---- The table of cases ----
@@ -540,7 +632,62 @@ def changes():
             yield "change", "steps", lanes, mode, dict(count=count, values=(LARGEST - 2 * (count - 1), 2))
 
 
-TABLE = (edges, counts, zero_widths, orders, borders, single_faults, other_ends, other_counts, pairs, whole_calls, changes)
+def stop_line(line):
+    """The body of a line, checked."""
+    _, name, lanes, mode, words = line
+    return "stop", name, lanes, mode, words
+
+
+def stops():
+    """Where reading stops: in the first block and in one that is not full, at the end, and with other counts and lanes."""
+    for lanes, mode in zip(LANES, (sorted_from(5), NONE, strict_from(LARGEST))):
+        size = block_size(lanes)
+        full = 3 * size
+        for faults in [[], [("more", 3)]] + [faults for block in (0, 3) for faults in faults_at(block, mode, block == 3)]:
+            yield stop_line(damaged(lanes, mode, full + PART, faults))
+        for count in (0, size, full, full + size + 1, 4096, 4097):
+            yield stop_line(damaged(lanes, mode, full + PART, [], count=count))
+        yield stop_line(damaged(lanes, mode, full + PART, [], **{"as": lanes + 1}))
+        yield stop_line(damaged(lanes, mode, full + PART, [], count=4097, **{"as": lanes + 1}))
+    yield stop_line(damaged(4, PLAIN, 3 * 128 + PART, [("cut", 2)]))
+
+
+def part_line(line, block, **words):
+    """A block of the body of a line, by itself."""
+    _, name, lanes, mode, given = line
+    body = packed_body(lanes, given["packed"], given["values"], given.get("odd"), given.get("next"))
+    start = 0
+    for _ in range(block):
+        start += 1 + 4 * lanes * body[start]
+    return "part", name, lanes, mode, {**given, "start": start, **words}
+
+
+def parts():
+    """A block by itself: every refusal of a full one and of one that is not full, other counts, and the value before it."""
+    for lanes, mode in zip(LANES, (sorted_from(5), NONE, strict_from(7))):
+        size = block_size(lanes)
+        count = 3 * size + PART
+        for faults in [[]] + faults_at(1, mode, False):
+            yield part_line(damaged(lanes, mode, count, faults), 1, count=2 * size + PART)
+        for faults in [[]] + faults_at(3, mode, True):
+            yield part_line(damaged(lanes, mode, count, faults), 3, count=PART)
+        for left in (0, 1, size - 1, size, 4097):
+            yield part_line(damaged(lanes, mode, count, []), 1, count=left)
+        for left in (0, PART - 1, PART + 1):
+            yield part_line(damaged(lanes, mode, count, []), 3, count=left)
+        for left, room in ((4097, size), (4097, size - 1), (PART, PART), (PART, PART - 1)):
+            yield part_line(damaged(lanes, mode, count, []), 1 if left > size else 3, count=left, room=room)
+        yield part_line(damaged(lanes, mode, count, [("33", 1)]), 1, room=size - 1)
+        yield part_line(damaged(lanes, mode, count, [("33", 1)], **{"as": lanes + 1}), 1, room=size - 1)
+        # A block of width 0, of which no value is left, or one.
+        for left in (0, 1):
+            yield part_line(body_line("zero", lanes, mode, left, 1, (0, 0)), 0)
+        # 4,294,967,295 before a block is a bound like any other, and none is not.
+        for before in (PLAIN, sorted_from(LARGEST), strict_from(LARGEST), NONE):
+            yield part_line(damaged(lanes, before, count, []), 1, count=2 * size)
+
+
+TABLE = (edges, counts, zero_widths, orders, borders, single_faults, other_ends, other_counts, pairs, whole_calls, changes, stops, parts)
 
 
 def text_of(kind, name, lanes, mode, words):

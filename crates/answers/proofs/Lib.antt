@@ -1,3 +1,4 @@
+pub mod Guards
 pub mod Refusals
 pub mod Answers
 pub mod Parts

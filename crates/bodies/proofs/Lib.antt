@@ -3,6 +3,7 @@ pub mod Block
 pub mod Whole
 pub mod Onward
 pub mod Sizes
+pub mod Narrow
 pub mod Numbers
 pub mod Stops
 pub mod Kept

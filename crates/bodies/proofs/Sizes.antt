@@ -11,17 +11,22 @@ use Rattle.layout.proofs.Tables.{length-packed, length-table}
 use Rattle.layout.proofs.Widths.{width-most}
 use Rattle.modes.specs.declared.Mode.{Mode}
 use Rattle.layout.proofs.LaneCounts.{for-lanes}
-use Rattle.order.specs.Order.{most, entriesOf}
+use Rattle.order.specs.Order.{entriesOf}
+use Rattle.bodies.specs.List.{most}
 use Rattle.order.proofs.Steps.{length-values}
 use Rattle.bodies.specs.Body.{filled, widthOf, block, blockCount, blocksOf, bodyOf}
 use Rattle.bodies.specs.Reading.{sizeAt, entryAt, entriesAt, entriesFrom, listOf}
 use Rattle.bodies.proofs.Whole.{suc-times, blocks-enough}
 
-block-short : (L : ℕ) (es : List ℕ) → length (block L es) ≤ 1 + 128 * L
+-- a block of width w at most
+pub block-long : (L w : ℕ) (es : List ℕ) → widthOf L es ≤ w → length (block L es) ≤ 1 + 4 * L * w
 unfolding block
-block-short L es =
-    let narrow : 4 * L * widthOf L es ≤ 4 * L * 32 = mul-le-mul {n₁ = 4 * L} {n₂ = 4 * L} (omega arith) (width-most (filled es) (blockSize L)) in
+block-long L w es h =
+    let narrow : 4 * L * widthOf L es ≤ 4 * L * w = mul-le-mul {n₁ = 4 * L} {n₂ = 4 * L} (omega arith) h in
     rw length-packed (omega arith)
+
+block-short : (L : ℕ) (es : List ℕ) → length (block L es) ≤ 1 + 4 * L * 32
+block-short L es = block-long L 32 es (width-most (filled es) (blockSize L))
 
 blocks-short : (L : ℕ) (es : List ℕ) (b : ℕ) → length (blocksOf L es b) ≤ b * (1 + 128 * L)
 unfolding blocksOf

@@ -1,3 +1,4 @@
+pub mod List
 pub mod Body
 pub mod Reading
 pub mod Stops

@@ -24,6 +24,7 @@ use Rattle.text.specs.Text.{decimal, fitted, line}
 use Rattle.text.proofs.Decimals.{fitted-all}
 use Rattle.files.specs.declared.heading.Header.{Header}
 use Rattle.files.specs.Header.{settings, fileOf, headerText}
+use Rattle.files.specs.kernel.Lengths.{longestHeader}
 use Rattle.files.specs.Calls.{headerFor, fileFor, writeRefusalOf, writeAnswerOf, writeOutputOf}
 use Rattle.files.proofs.Lines.{header-are, header-short}
 
@@ -63,7 +64,7 @@ module _ (L : ℕ) (m : Mode) (vs before : List ℕ) (r : Answer) (told : r ≡ 
   head-is = rw body-length
 
   module _ (n : ℕ) (len : n ≡ length (headerText (record { lanes = L; mode = m; count = length vs; bytes = r .length }))) where
-    pub text-small : n ≤ 81
+    pub text-small : n ≤ longestHeader
     text-small = omega (arith, len, header-short head)
 
     total : n + r .length ≡ length (fileFor L m vs)
@@ -76,10 +77,10 @@ module _ (L : ℕ) (m : Mode) (vs before : List ℕ) (r : Answer) (told : r ≡ 
         let j : NoRoom ≡ writeRefusalOf L m vs (length before) = rw (good, lt-ltb (length before) (length (fileFor L m vs)) (rw total at h)) in
         (refused j refl q (length (fileFor L m vs)), untouched j refl (fileFor L m vs) before)
 
-    module _ (room : n + r .length ≤ length before) (text out₁ : List ℕ) (spelt : text ≡ over (headerText (record { lanes = L; mode = m; count = length vs; bytes = r .length })) (replicate 96 0))
+    module _ (room : n + r .length ≤ length before) (text out₁ : List ℕ) (spelt : text ≡ over (headerText (record { lanes = L; mode = m; count = length vs; bytes = r .length })) (replicate longestHeader 0))
         (put : out₁ ≡ over (fitted (take n text) before) before) where
       head-there : take n text ≡ headerText head
-      head-there = ap (take n) spelt ∙ take-over n (headerText head) (replicate 96 0) (sym len)
+      head-there = ap (take n) spelt ∙ take-over n (headerText head) (replicate longestHeader 0) (sym len)
 
       first : Front (headerText head) before out₁
       first =

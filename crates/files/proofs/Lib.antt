@@ -4,3 +4,4 @@ pub mod FoundLines
 pub mod Tests
 pub mod Theorems
 pub mod Determined
+pub mod Largest

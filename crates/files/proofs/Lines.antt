@@ -14,19 +14,20 @@ use Rattle.modes.specs.declared.Mode.the-variants.{Plain, Sorted, Strict}
 use Rattle.text.specs.Text.{word, decimal, line}
 use Rattle.text.proofs.Lines.{number-line-short, line-rest}
 use Rattle.files.specs.declared.heading.Header.{Header}
+use Rattle.files.specs.kernel.Lengths.{longestNumberLine, longestModeLine, longestSettings, longestHeader}
 use Rattle.files.specs.Header.{modeWord, firstField, initialText, firstText, settings, fileOf}
 
 -- how long lines are
-pub mode-line-short : (m : Mode) → length (line "mode=" (modeWord m) []) ≤ 12
+pub mode-line-short : (m : Mode) → length (line "mode=" (modeWord m) []) ≤ longestModeLine
 mode-line-short Plain = omega arith
 mode-line-short (Sorted f) = omega arith
 mode-line-short (Strict i) = omega arith
 
-initial-short : (i : Initial) → length (line "first=" (initialText i) []) ≤ 17
+initial-short : (i : Initial) → length (line "first=" (initialText i) []) ≤ longestNumberLine
 initial-short None = omega arith
 initial-short (Number f) = number-line-short (word "first=") f
 
-pub first-line-short : (m : Mode) → length (line "first=" (firstText m) []) ≤ 17
+pub first-line-short : (m : Mode) → length (line "first=" (firstText m) []) ≤ longestNumberLine
 first-line-short m = initial-short (firstField m)
 
 -- the three lines of the settings
@@ -48,7 +49,7 @@ settings-rest L m rest =
         ∙ append-assoc (line "mode=" (modeWord n) []) (line "first=" (firstText n) []) rest
         ∙ ap (λ (t : List ℕ). line "mode=" (modeWord n) [] ++ t) (first-rest n) ∙ line-rest "mode=" (modeWord n) (line "first=" (firstText n) rest)
 
-pub settings-short : (L : ℕ) (m : Mode) → length (settings L m []) ≤ 46
+pub settings-short : (L : ℕ) (m : Mode) → length (settings L m []) ≤ longestSettings
 settings-short L m =
     let t : List ℕ = line "lanes=" (decimal L) [] in
     let u : List ℕ = line "mode=" (modeWord m) [] in
@@ -65,7 +66,7 @@ header-are h body =
     ∙ ap (λ (t : List ℕ). settings (h .lanes) (h .mode) [] ++ t) (append-assoc c b (10 ∷ body) ∙ ap (λ (t : List ℕ). c ++ t) (line-rest "bytes=" (decimal (h .bytes)) (10 ∷ body)) ∙ line-rest "count=" (decimal (h .count)) (line "bytes=" (decimal (h .bytes)) (10 ∷ body)))
     ∙ settings-rest (h .lanes) (h .mode) (line "count=" (decimal (h .count)) (line "bytes=" (decimal (h .bytes)) (10 ∷ body)))
 
-pub header-short : (h : Header) → length (fileOf h []) ≤ 81
+pub header-short : (h : Header) → length (fileOf h []) ≤ longestHeader
 header-short h =
     let t : List ℕ = settings (h .lanes) (h .mode) [] in
     let u : List ℕ = line "count=" (decimal (h .count)) [] in

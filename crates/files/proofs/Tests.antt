@@ -21,16 +21,15 @@ use Rattle.modes.specs.declared.Mode.the-variants.{Plain, Strict}
 use Rattle.lists.specs.Calls.{readAnswer, readOutput}
 use Rattle.text.specs.declared.Numeral.{Numeral}
 use Rattle.text.specs.Text.{word, begins, numberLine}
-use Rattle.text.proofs.Beginnings.{begins-within}
+use Rattle.text.proofs.Beginnings.{begins-within, stands-within}
 use Rattle.text.proofs.Found.{line-within}
 use Rattle.files.specs.declared.finding.ModeLines.{ModeLines}
 use Rattle.files.specs.declared.finding.SizeLines.{SizeLines}
 use Rattle.files.specs.declared.Packing.{Packing}
 use Rattle.files.specs.declared.Found.{Found}
 use Rattle.files.specs.declared.Opened.{Opened}
-use Rattle.files.specs.Header.{settings, headerText}
-use Rattle.files.specs.kernel.Finding.{some, modeText, noneLines, sortedName, sortedLines, strictName, strictLines, modeLinesIn, noSettings, settingsIn, sizeText, sizeLinesIn, nothingFound, headerFound}
-use Rattle.files.specs.Opening.{isSettings, isHeaded, headerIn, bodyIn, isFile, fileFound, headerAnswer, openAnswer}
+use Rattle.files.specs.kernel.Finding.{some, modeText, noneLines, sortedName, sortedLines, strictName, strictLines, modeLinesIn, noSettings, settingsIn, sizeLinesIn, nothingFound, headerFound}
+use Rattle.files.specs.Opening.{isSettings, isHeaded, headerIn, bodyIn, isFile, fileFound, headerAnswer}
 use Rattle.files.specs.Calls.{listIn, readRefusalOf, readAnswerOf, readOutputOf}
 use Rattle.files.proofs.FoundLines.{when, is-some, mode-there, settings-there, sizes-there, header-there}
 
@@ -113,10 +112,8 @@ module _ (text : List ℕ) (l : Numeral) (le : l ≡ numberLine (word "lanes=") 
 
       pub mode-within : l .length + m .length ≤ length text
       mode-within =
-          let t = mode-there (drop (l .length) text) (rw behind at some-mode) in
-          let n : m .length ≡ length (modeText (m .mode)) = rw (← behind) at (t .size) in
-          let w : begins (modeText (m .mode)) (drop (l .length) text) ≡ true = rw (← behind) at (t .there) in
-          omega (arith, lanes-within, begins-within (modeText (m .mode)) (drop (l .length) text) w, length-drop (l .length) text)
+          let n : m .length ≤ length (drop (l .length) text) = rw behind (stands-within (mode-there (drop (l .length) text) (rw behind at some-mode) .stands)) in
+          omega (arith, lanes-within, length-drop (l .length) text)
 
 -- the header: s is what was found first, and z behind it
 module _ (file : List ℕ) (s : Packing) (se : s ≡ settingsIn file) where
@@ -126,9 +123,7 @@ module _ (file : List ℕ) (s : Packing) (se : s ≡ settingsIn file) where
 
   module _ (a : accepted (s .refusal) ≡ true) where
     pub settings-within : s .length ≤ length file
-    settings-within =
-        let t = settings-there file (rw se at a) in
-        rw (se, t .size) (begins-within (settings (settingsIn file .lanes) (settingsIn file .mode) []) file (t .there))
+    settings-within = rw se (stands-within (settings-there file (rw se at a) .stands))
 
     module _ (z : SizeLines) (ze : z ≡ sizeLinesIn (midOf (s .length) (length file - s .length) file)) where
       further : z ≡ sizeLinesIn (drop (s .length) file)
@@ -145,10 +140,8 @@ module _ (file : List ℕ) (s : Packing) (se : s ≡ settingsIn file) where
 
         pub sizes-within : s .length + z .length ≤ length file
         sizes-within =
-            let t = sizes-there (drop (s .length) file) (rw further at some-sizes) in
-            let n : z .length ≡ length (sizeText (z .count) (z .bytes)) = rw (← further) at (t .size) in
-            let w : begins (sizeText (z .count) (z .bytes)) (drop (s .length) file) ≡ true = rw (← further) at (t .there) in
-            omega (arith, settings-within, begins-within (sizeText (z .count) (z .bytes)) (drop (s .length) file) w, length-drop (s .length) file)
+            let n : z .length ≤ length (drop (s .length) file) = rw further (stands-within (sizes-there (drop (s .length) file) (rw further at some-sizes) .stands)) in
+            omega (arith, settings-within, length-drop (s .length) file)
 
 -- where nothing is found, zeros are handed out
 module _ (file : List ℕ) where
@@ -164,9 +157,7 @@ module _ (file : List ℕ) where
   start-within = go (isHeaded file) refl
     where
       go : (b : Bool) → isHeaded file ≡ b → headerFound file .start ≤ length file
-      go true h =
-          let t = header-there file h in
-          rw (t .size) (begins-within (headerText (headerIn file)) file (t .there))
+      go true h = stands-within (header-there file h .stands)
       go false h = rw (not-headed h) (omega arith)
 
 -- a file: f is the header that was found

@@ -1,6 +1,6 @@
 -- List files, there and back.
 use mathlib.Core.Path.{_≡_, refl, sym, _∙_, ap, ap₂}
-use mathlib.Core.Bool.{Bool, true, false, cond}
+use mathlib.Core.Bool.{Bool, true, false}
 use mathlib.Core.Logic.{_↔_}
 use mathlib.Core.List.{List, [], _++_}
 use Prim.Native.Nat.{ℕ, _+_, _^_, _≤_, _<_}
@@ -18,7 +18,8 @@ use Rattle.modes.specs.Entries.{firstOf}
 use Rattle.modes.specs.declared.Initial.the-variants.{None, Number}
 use Rattle.modes.specs.declared.Mode.{Mode}
 use Rattle.modes.specs.declared.Mode.the-variants.{Plain, Sorted, Strict}
-use Rattle.order.specs.Order.{IsList, starting}
+use Rattle.order.specs.Order.{starting}
+use Rattle.bodies.specs.List.{IsList}
 use Rattle.order.proofs.Beginnings.{starting-first, starting-entries, initial-twice, starting-twice}
 use Rattle.bodies.specs.Body.{bodyOf}
 use Rattle.bodies.proofs.Sizes.{body-short}
@@ -27,7 +28,7 @@ use Rattle.lists.proofs.Accepts.{measure-exactly}
 use Rattle.lists.specs.Demand.{Holds}
 use Rattle.lists.proofs.Demand.{list-read, body-accepted, list-back}
 use Rattle.text.specs.Text.{begins}
-use Rattle.text.proofs.Beginnings.{begins-whole, whole-begins}
+use Rattle.text.proofs.Beginnings.{stands-whole, whole-begins}
 use Rattle.files.specs.declared.Opened.{Opened}
 use Rattle.files.specs.declared.Found.{Found}
 use Rattle.files.specs.declared.Packing.{Packing}
@@ -50,13 +51,10 @@ module _ (file : List ℕ) (h : isHeaded file ≡ true) where
 
   -- the body starts where the header's text ends
   pub found-start : headerFound file .start ≡ length (headerText (headerIn file))
-  found-start = header-there file h .size
+  found-start = header-there file h .stands .size
 
   pub found-whole : file ≡ fileOf (headerIn file) (bodyIn file)
-  found-whole =
-      begins-whole (headerText (headerIn file)) file (header-there file h .there)
-      ∙ ap (λ (n : ℕ). headerText (headerIn file) ++ drop n file) (sym found-start)
-      ∙ file-splits (headerIn file) (bodyIn file)
+  found-whole = stands-whole (header-there file h .stands) ∙ file-splits (headerIn file) (bodyIn file)
 
 -- and what some header writes is found, whatever stands behind it
 module _ (file : List ℕ) (h : Header) (body : List ℕ) (sound : IsHeader h) (whole : file ≡ fileOf h body) where
@@ -135,7 +133,7 @@ settings-sets text h =
       lanes = t .lanes;
       mode = t .mode;
       first = t .first;
-      whole = begins-whole (settings L m []) text (t .there) ∙ ap (λ (n : ℕ). settings L m [] ++ drop n text) (sym (t .size)) ∙ settings-rest L m (drop (settingsIn text .length) text);
+      whole = stands-whole (t .stands) ∙ settings-rest L m (drop (settingsIn text .length) text);
     }
 
 -- accepted are exactly the texts that begin with what some lanes and mode write

@@ -4,6 +4,7 @@ use answers::Refusal;
 use finding::mode_lines;
 use finding::size_lines;
 use heading::Header;
+use heading::LONGEST;
 use heading::put_header;
 use lanes::is_lanes;
 use lists::measure;
@@ -178,7 +179,7 @@ pub fn write(lanes: usize, mode: Mode, values: &[u32], file: &mut [u8]) -> Answe
         return Answer::refused(refusal);
     }
     let bytes = measured.length;
-    let mut text = [0u8; 96];
+    let mut text = [0u8; LONGEST];
     let header = Header {
         lanes: lanes as u32,
         mode,

@@ -11,7 +11,8 @@ use Rattle.answers.specs.declared.Refusal.the-variants.{Accepted, BadLanes, NoR
 use Rattle.answers.specs.Refusals.{accepted}
 use Rattle.layout.specs.Layout.{blockSize, isLanes}
 use Rattle.answers.proofs.Refusals.{passed, both}
-use Rattle.order.specs.Order.{most, starting, ordered}
+use Rattle.order.specs.Order.{starting, ordered}
+use Rattle.bodies.specs.List.{most}
 use Rattle.bodies.specs.Body.{bodyOf}
 use Rattle.bodies.specs.Reading.{blockRefusal, bodyRefusal}
 use Rattle.lists.specs.Calls.{measureRefusal, writeRefusal, readRefusal}

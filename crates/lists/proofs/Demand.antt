@@ -14,7 +14,8 @@ use Rattle.answers.proofs.Refusals.{accepted-is}
 use Rattle.answers.proofs.Fronts.{take-over}
 use Rattle.modes.specs.declared.Mode.{Mode}
 use Rattle.modes.specs.Entries.{firstOf}
-use Rattle.order.specs.Order.{IsList, starting, entriesOf, valuesOf}
+use Rattle.order.specs.Order.{starting, entriesOf, valuesOf}
+use Rattle.bodies.specs.List.{IsList}
 use Rattle.order.proofs.Steps.{length-entries, length-values, entries-small, values-small, values-entries, entries-values}
 use Rattle.order.proofs.Beginnings.{starting-first, starting-values}
 use Rattle.bodies.specs.Body.{blockCount, blocksOf, bodyOf}

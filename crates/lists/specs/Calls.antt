@@ -11,7 +11,8 @@ use Rattle.answers.specs.declared.Refusal.the-variants.{Accepted, BadLanes, NoR
 use Rattle.answers.specs.Refusals.{refuse, orElse}
 use Rattle.layout.specs.Layout.{isLanes}
 use Rattle.answers.specs.Answers.{answer, written}
-use Rattle.order.specs.Order.{most, starting}
+use Rattle.order.specs.Order.{starting}
+use Rattle.bodies.specs.List.{most}
 use Rattle.bodies.specs.Body.{bodyOf}
 use Rattle.bodies.specs.Reading.{valuesRefusal, bodyRefusal, listOf}
 

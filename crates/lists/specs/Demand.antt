@@ -13,7 +13,7 @@ use Rattle.modes.specs.Entries.{firstOf}
 use Rattle.answers.specs.declared.Refusal.the-variants.{Accepted}
 use Rattle.answers.specs.Refusals.{accepted}
 use Rattle.answers.specs.Answers.{over}
-use Rattle.order.specs.Order.{IsList}
+use Rattle.bodies.specs.List.{IsList}
 use Rattle.bodies.specs.Body.{bodyOf}
 use Rattle.lists.specs.Calls.{writeAnswer, writeOutput, readRefusal, readAnswer, readOutput}
 use Rattle.layout.specs.Layout.{Below, isLanes}

@@ -13,7 +13,8 @@ use Rattle.answers.specs.declared.Refusal.the-variants.{Accepted, BadLanes, NoR
 use Rattle.answers.specs.Refusals.{refuse}
 use Rattle.answers.specs.Answers.{answer, written}
 use Rattle.layout.specs.Layout.{blockSize, isLanes}
-use Rattle.order.specs.Order.{most, starting}
+use Rattle.order.specs.Order.{starting}
+use Rattle.bodies.specs.List.{most}
 use Rattle.bodies.specs.declared.Stop.{Stop}
 use Rattle.bodies.specs.Reading.{sizeAt, valuesAt, frameRefusal, blockRefusal}
 use Rattle.bodies.specs.Stops.{orStop, blockStop, bodyStop}

@@ -1,4 +1,5 @@
-// The list calls of document 01, and one that measures. Each takes any input, tests all of it before it writes anything, and writes nothing where it refuses.
+// The list calls of document 01, one that measures, and those on a part of a body: how far it can be read, and a block by itself. Each takes
+// any input, tests all of it before it writes anything, and writes nothing where it refuses.
 use answers::Answer;
 use answers::Refusal;
 use bodies::Stop;
@@ -6,13 +7,13 @@ use fetch::fetch_body;
 use fetch::fetch_last;
 use lanes::is_lanes;
 use modes::Mode;
-use order::MOST;
 use order::in_order;
 use order::starting;
 use sizes::block_length;
 use sizes::lesser;
 use sizes::widen;
 use store::body_length;
+use store::has_room;
 use store::store_body;
 use take::frame_refusal;
 use take::nothing;
@@ -20,13 +21,16 @@ use take::take_block;
 use take::take_body;
 ghost use mathlib.Core.Path.{_≡_};
 ghost use lib.ListN.{length};
-ghost use Rattle.lists.specs.Calls.{measureRefusal, measureAnswer, writeRefusal, writeAnswer, writeOutput, readRefusal, readAnswer, readOutput};
+ghost use Rattle.lists.specs.Calls.{measureRefusal, measureAnswer, writeAnswer, writeOutput, readRefusal, readAnswer, readOutput};
 ghost use Rattle.lists.specs.Parts.{frameAnswer, checkBlockStop, readBlockRefusal, readBlockAnswer, readBlockOutput, checkStop};
 
 mod fetch;
 mod sizes;
 mod store;
 mod take;
+
+// The most values of a list.
+pub const MOST: usize = 4096;
 
 fn measure_refusal(lanes: usize, mode: Mode, values: &[u32]) -> Refusal
     ensures { λ r. ⌜ r ≡ measureRefusal lanes mode (now (values .entry)) ⌝ }
@@ -54,27 +58,17 @@ pub fn measure(lanes: usize, mode: Mode, values: &[u32]) -> Answer
     Answer::accepted(body_length(lanes, mode, values))
 }
 
-fn write_refusal(lanes: usize, mode: Mode, values: &[u32], room: usize) -> Refusal
-    ensures { λ r. ⌜ r ≡ writeRefusal lanes mode (now (values .entry)) room ⌝ }
-{
-    let refusal = measure_refusal(lanes, mode, values);
-    if !refusal.is_accepted() {
-        return refusal;
-    }
-    if room < body_length(lanes, mode, values) {
-        return Refusal::NoRoom;
-    }
-    Refusal::Accepted
-}
-
 // Write a list: its body, at the front of `body`. Answers the body's length.
 pub fn write(lanes: usize, mode: Mode, values: &[u32], body: &mut [u8]) -> Answer
     ensures { λ r. ⌜ r ≡ writeAnswer lanes mode (now (values .entry)) (length (now (body .entry))) ⌝ }
     ensures { λ r. ⌜ now (body .exit) ≡ writeOutput lanes mode (now (values .entry)) (now (body .entry)) ⌝ }
 {
-    let refusal = write_refusal(lanes, mode, values, body.len());
+    let refusal = measure_refusal(lanes, mode, values);
     if !refusal.is_accepted() {
         return Answer::refused(refusal);
+    }
+    if !has_room(lanes, mode, values, body.len()) {
+        return Answer::refused(Refusal::NoRoom);
     }
     let length = store_body(lanes, mode, values, &mut body[..]);
     Answer::accepted(length)
@@ -106,6 +100,19 @@ pub fn read(lanes: usize, mode: Mode, count: usize, body: &[u8], values: &mut [u
     }
     fetch_body(lanes, mode, count, body, &mut values[..]);
     Answer::accepted(count)
+}
+
+// Check a body as reading does, and say where that stops: at 1 and 7 before any block, with nothing left and the mode as given.
+pub fn check(lanes: usize, mode: Mode, count: usize, body: &[u8]) -> Stop
+    ensures { λ r. ⌜ r ≡ checkStop lanes mode count (now (body .entry)) ⌝ }
+{
+    if !is_lanes(lanes) {
+        return nothing(Refusal::BadLanes, 0, mode);
+    }
+    if MOST < count {
+        return nothing(Refusal::TooMany, 0, mode);
+    }
+    take_body(lanes, starting(mode), count, body)
 }
 
 // The frame of the block that the bytes begin with: its width byte, and whether its payload is there. Answers how many bytes the block has.
@@ -163,17 +170,4 @@ pub fn read_block(
     let k = lesser(32 * lanes, count);
     fetch_last(lanes, mode, k, bytes, &mut values[..]);
     Answer::accepted(k)
-}
-
-// Check a body as reading does: where it stops, and at what refusal.
-pub fn check(lanes: usize, mode: Mode, count: usize, body: &[u8]) -> Stop
-    ensures { λ r. ⌜ r ≡ checkStop lanes mode count (now (body .entry)) ⌝ }
-{
-    if !is_lanes(lanes) {
-        return nothing(Refusal::BadLanes, 0, mode);
-    }
-    if MOST < count {
-        return nothing(Refusal::TooMany, 0, mode);
-    }
-    take_body(lanes, starting(mode), count, body)
 }

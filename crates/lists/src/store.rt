@@ -9,10 +9,12 @@ use order::next_entry;
 ghost use mathlib.Core.Path.{_≡_};
 ghost use mathlib.Core.Bool.{true};
 ghost use Prim.Native.Nat.{_≤_};
+ghost use lib.Dec.{leb};
 ghost use lib.ListN.{length, replicate};
 ghost use Rattle.layout.specs.Layout.{blockSize, isLanes};
 ghost use Rattle.answers.specs.Answers.{over};
-ghost use Rattle.order.specs.Order.{most, entriesOf};
+ghost use Rattle.order.specs.Order.{entriesOf};
+ghost use Rattle.bodies.specs.List.{most};
 ghost use Rattle.bodies.specs.Body.{block, bodyOf};
 
 // The entries of a block's values, and 0 behind them: "The last block is filled up with entries of 0."
@@ -60,6 +62,20 @@ pub(crate) fn body_length(lanes: usize, mode: Mode, values: &[u32]) -> usize
         running = after(running, values[place - 1]);
     }
     total
+}
+
+// The length of the longest body: 128 blocks of 129 bytes, with 1 lane.
+const LONGEST: usize = 16512;
+
+// Whether the body of some values fits. It is measured only where a longer one might not.
+pub(crate) fn has_room(lanes: usize, mode: Mode, values: &[u32], room: usize) -> bool
+    requires { ⌜ (isLanes lanes ≡ true) × (length (now values) ≤ most) ⌝ }
+    ensures { λ r. ⌜ r ≡ leb (length (bodyOf lanes mode (now (values .entry)))) room ⌝ }
+{
+    if LONGEST <= room {
+        return true;
+    }
+    body_length(lanes, mode, values) <= room
 }
 
 // The block of some values, at the front of `body`: its width, and its payload. Answers its length.

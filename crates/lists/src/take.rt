@@ -15,7 +15,7 @@ ghost use lib.ListN.{length, take};
 ghost use Rattle.layout.specs.Layout.{at, blockSize, table, isLanes};
 ghost use Rattle.layout.specs.Width.{fits};
 ghost use Rattle.answers.specs.Refusals.{accepted};
-ghost use Rattle.order.specs.Order.{most};
+ghost use Rattle.bodies.specs.List.{most};
 ghost use Rattle.bodies.specs.Reading.{entryAt, frameRefusal, entriesRefusal, endRefusal};
 ghost use Rattle.bodies.specs.Stops.{nothing, blockStop, bodyStop};
 

@@ -24,6 +24,12 @@ pub(crate) fn first_bytes(bytes: &[u8], count: usize) -> &[u8] {
     &bytes[0..end]
 }
 
+// The bytes from a place on, or none where there is no such place.
+pub(crate) fn bytes_from(bytes: &[u8], place: usize) -> &[u8] {
+    let start = lesser(place, bytes.len());
+    &bytes[start..]
+}
+
 // The first `count` values, or all where there are fewer.
 pub(crate) fn first_values(values: &[u32], count: usize) -> &[u32] {
     let end = lesser(count, values.len());

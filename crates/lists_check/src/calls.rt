@@ -1,4 +1,4 @@
-// The two calls with so much room, which is full of marks: a word with what they answer, and the checksum of the room afterwards.
+// The calls that write, with so much room, which is full of marks: a word with what they answer, and the checksum of the room afterwards.
 use crate::buffers::first_values;
 use crate::buffers::marked_bytes;
 use crate::buffers::marked_values;
@@ -38,4 +38,32 @@ pub(crate) fn read_word(
     let mut output = marked_values();
     let end = lesser(room, 4104);
     read_into(word, lanes, mode, count, body, &mut output[0..end]);
+}
+
+// The same of a block.
+fn read_block_into(
+    word: &[u8],
+    lanes: usize,
+    mode: Mode,
+    count: usize,
+    bytes: &[u8],
+    output: &mut [u32],
+) {
+    let read = lists::read_block(lanes, mode, count, bytes, output);
+    let length = read.length;
+    line::answer(word, read, values_sum(output));
+    line::list(b":", first_values(output, length), 4);
+}
+
+pub(crate) fn read_block_word(
+    word: &[u8],
+    lanes: usize,
+    mode: Mode,
+    count: usize,
+    bytes: &[u8],
+    room: usize,
+) {
+    let mut output = marked_values();
+    let end = lesser(room, 4104);
+    read_block_into(word, lanes, mode, count, bytes, &mut output[0..end]);
 }

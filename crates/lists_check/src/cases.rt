@@ -1,7 +1,9 @@
-// A list that is written and read back, and a body that may be wrong.
+// A list that is written and read back, and a body that may be wrong, whole or a block of it.
+use crate::buffers::bytes_from;
 use crate::buffers::first_bytes;
 use crate::buffers::first_values;
 use crate::buffers::marked_bytes;
+use crate::calls::read_block_word;
 use crate::calls::read_word;
 use crate::calls::write_word;
 use crate::inputs::list_of;
@@ -12,6 +14,7 @@ use crate::words::COUNT;
 use crate::words::END;
 use crate::words::PACKED;
 use crate::words::ROOM;
+use crate::words::START;
 use crate::words::THEN;
 use crate::words::mode_of;
 use modes::Mode;
@@ -63,9 +66,19 @@ fn read_case(body: &[u8], numbers: [u64; 96]) {
     let lanes = numbers[AS] as usize;
     let count = numbers[COUNT] as usize;
     let room = numbers[ROOM] as usize;
-    line::number(b" body=", bytes_sum(body) as u64);
-    line::hex(b":", body);
+    line::bytes(b" body=", body);
     read_word(b" read=", lanes, mode_of(numbers), count, body, room);
+}
+
+// A block by itself: the same of its bytes, and what the three calls on it answer.
+fn block_case(bytes: &[u8], numbers: [u64; 96]) {
+    let lanes = numbers[AS] as usize;
+    let mode = mode_of(numbers);
+    let count = numbers[COUNT] as usize;
+    line::bytes(b" body=", bytes);
+    line::length(b" frame=", lists::frame(lanes, bytes));
+    line::stop(b" stop=", lists::check_block(lanes, mode, count, bytes));
+    read_block_word(b" read=", lanes, mode, count, bytes, numbers[ROOM] as usize);
 }
 
 // A body packed of entries, which are the values of a plain list, and marks behind it.
@@ -79,11 +92,41 @@ fn packed(lanes: usize, numbers: [u64; 96]) -> [u8; 16520]
     bytes
 }
 
+// A packed body with bytes changed, and marks behind it.
+fn changed(lanes: usize, numbers: [u64; 96]) -> [u8; 16520]
+    ensures { λ r. ⌜ 16520 ≡ length r ⌝ }
+{
+    let mut bytes = packed(lanes, numbers);
+    put(&mut bytes, numbers, BYTE);
+    put(&mut bytes, numbers, THEN);
+    bytes
+}
+
 // A packed body with bytes changed, up to its end.
 pub(crate) fn body_case(lanes: usize, numbers: [u64; 96]) {
-    let mut all = packed(lanes, numbers);
-    let bytes: &mut [u8] = &mut all;
-    put(bytes, numbers, BYTE);
-    put(bytes, numbers, THEN);
-    read_case(first_bytes(bytes, numbers[END] as usize), numbers);
+    let bytes = changed(lanes, numbers);
+    read_case(first_bytes(&bytes, numbers[END] as usize), numbers);
+}
+
+// Such a body is checked: where that stops.
+pub(crate) fn stop_case(lanes: usize, numbers: [u64; 96]) {
+    let bytes = changed(lanes, numbers);
+    let body = first_bytes(&bytes, numbers[END] as usize);
+    line::bytes(b" body=", body);
+    line::stop(
+        b" stop=",
+        lists::check(
+            numbers[AS] as usize,
+            mode_of(numbers),
+            numbers[COUNT] as usize,
+            body,
+        ),
+    );
+}
+
+// Of such a body the block at a place is framed, checked and read by itself.
+pub(crate) fn part_case(lanes: usize, numbers: [u64; 96]) {
+    let bytes = changed(lanes, numbers);
+    let body = first_bytes(&bytes, numbers[END] as usize);
+    block_case(bytes_from(body, numbers[START] as usize), numbers);
 }

@@ -4,6 +4,8 @@
 use buffers::first_values;
 use cases::body_case;
 use cases::list_case;
+use cases::part_case;
+use cases::stop_case;
 use changes::change_case;
 use inputs::list_of;
 use libc::STDIN_FILENO;
@@ -24,6 +26,7 @@ mod line;
 mod words;
 
 // `list`: a list is written and read back. `change`: its body is read with one byte changed. `body`: a body that may be wrong is read.
+// `stop`: such a body is checked. `part`: a block of such a body is checked and read by itself.
 fn run_case(kind: u8, numbers: [u64; 96]) {
     let lanes = numbers[LANES] as usize;
     let mode = mode_of(numbers);
@@ -34,6 +37,8 @@ fn run_case(kind: u8, numbers: [u64; 96]) {
         b'l' => list_case(lanes, mode, values),
         b'c' => change_case(lanes, mode, values),
         b'b' => body_case(lanes, numbers),
+        b's' => stop_case(lanes, numbers),
+        b'p' => part_case(lanes, numbers),
         _ => {}
     }
 }

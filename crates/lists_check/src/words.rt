@@ -42,6 +42,9 @@ pub(crate) const AS: usize = 4;
 // room=31: a body is read into so much room.
 pub(crate) const ROOM: usize = 55;
 
+// start=21: the block at place 21.
+pub(crate) const START: usize = 58;
+
 // The numbers of a word that is not there.
 const ABSENT: u64 = 18446744073709551615;
 

@@ -28,6 +28,6 @@ pub record InOrder (m : Mode) (vs : List ℕ) : Type 0 where
   pub first : 0 < length vs → First m (at vs 0)
   pub each : (i : ℕ) → suc i < length vs → Follows m (at vs i) (at vs (suc i))
 
--- `ordered` tells it. A list is in the order of the mode that it starts with (`IsList`, `starting`).
+-- `ordered` tells it. A list is in the order of the mode that it starts with (`starting`; bodies/specs/List, `IsList`).
 abbrev pub OrderTells : Type 0
 OrderTells = (m : Mode) (vs : List ℕ) → (ordered m vs ≡ true) ↔ InOrder m vs

@@ -1,23 +1,16 @@
 -- The order of "Lists" in document 01, and a list's entries and values, one after another. The mode goes along with them: past a
 -- value it is the list's mode with that value in place of the first number. So the ends of blocks play no part here. That "the
 -- previous value of a block's first is the last value of the block before" is a theorem (crates/bodies/proofs/Onward, body-next).
-use mathlib.Core.Path.{_≡_}
 use mathlib.Core.Bool.{Bool, true, _&&_, cond}
 use mathlib.Core.List.{List, [], _∷_}
-use Prim.Native.Nat.{ℕ, _≤_, _^_}
+use Prim.Native.Nat.{ℕ}
 use lib.Dec.{leb, ltb, eqb}
-use lib.ListN.{length}
-use Rattle.layout.specs.Layout.{Below}
 use Rattle.modes.specs.declared.Initial.{Initial}
 use Rattle.modes.specs.declared.Initial.the-variants.{None, Number}
 use Rattle.modes.specs.declared.Mode.{Mode}
 use Rattle.modes.specs.declared.Mode.the-variants.{Plain, Sorted, Strict}
 use Rattle.modes.specs.Entries.{firstOf, entryOf, valueOf}
 use Rattle.order.specs.declared.Course.{Course}
-
--- the most values of a list: "A list has 0 to 4,096 values."
-abbrev pub most : ℕ
-most = 4096
 
 -- "Strict with none, and strict with 4,294,967,295, put no bound on the first."
 abbrev pub startingInitial : Initial → Initial
@@ -54,14 +47,6 @@ admits (Strict (Number f)) v = ltb f v
 unfoldable pub ordered : Mode → List ℕ → Bool
 ordered m [] = true
 ordered m (v ∷ vs) = admits m v && ordered (after m v) vs
-
--- vs is a list of count values, at most 4,096, in the mode's order
-pub record IsList (m : Mode) (count : ℕ) (vs : List ℕ) : Type 0 where
-  pub size : length vs ≡ count
-  pub few : count ≤ most
-  -- "A value is 0 to 4,294,967,295."
-  pub small : Below (2 ^ 32) vs
-  pub order : ordered (starting m) vs ≡ true
 
 -- the entry of the value v, and the value of the entry e, where it comes next
 abbrev pub nextEntry : Mode → ℕ → ℕ

@@ -7,9 +7,6 @@ use modes::initial_value;
 ghost use mathlib.Core.Path.{_≡_};
 ghost use Rattle.order.specs.Order.{startingInitial, starting, after, admits, ordered, nextEntry, nextValue, valuesOf, course};
 
-// The most values of a list.
-pub const MOST: usize = 4096;
-
 // Strict's first number where a list starts: 4,294,967,295 stands for none.
 pub fn starting_initial(start: Initial) -> Initial
     ensures { λ r. ⌜ r ≡ startingInitial start ⌝ }

@@ -1,10 +1,11 @@
 -- The ways out of the two programs.
 use mathlib.Core.Path.{_≡_, refl, sym, _∙_, ap}
-use mathlib.Core.Bool.{Bool, true, false}
+use mathlib.Core.Bool.{Bool, true, false, not}
 use mathlib.Core.List.{List}
 use Prim.Native.Nat.{ℕ, _-_, _≤_, _<_}
 use native.Mathlib.Omega.{arith}
 use borrow.Author.Tests.{lt-ltb, le-ltb}
+use lib.Dec.{ltb, eqb}
 use lib.ListN.{length, take, drop}
 use borrow.Rule.Slice.PartMut.{midOf}
 use lib.Seq.{take-all}
@@ -13,20 +14,22 @@ use Rattle.answers.proofs.Fronts.{take-over}
 use Rattle.answers.proofs.Parts.{part-is}
 use Rattle.answers.specs.declared.Answer.{Answer}
 use Rattle.answers.specs.declared.Refusal.{Refusal}
-use Rattle.answers.specs.declared.Refusal.the-variants.{Accepted, TooMany, BadHeader}
-use Rattle.answers.specs.Refusals.{accepted}
-use Rattle.answers.proofs.Refusals.{both}
+use Rattle.answers.specs.declared.Refusal.the-variants.{Accepted, BadLanes, NoRoom, TooMany, OutOfOrder, BadHeader}
+use Rattle.answers.specs.Refusals.{numberOf, accepted, refuse}
+use Rattle.answers.proofs.Refusals.{both, first-stops, first-passes, refused}
+use Rattle.layout.specs.Layout.{isLanes}
+use Rattle.order.specs.Order.{starting, ordered}
 use Rattle.layout.proofs.LaneCounts.{lanes-of}
 use Rattle.modes.specs.declared.Mode.{Mode}
-use Rattle.order.specs.Order.{most}
+use Rattle.bodies.specs.List.{most}
 use Rattle.bodies.proofs.Sizes.{length-list}
-use Rattle.lists.specs.Calls.{measureRefusal, measureAnswer}
+use Rattle.lists.specs.Calls.{measureRefusal}
 use Rattle.lists.proofs.Accepts.{Readable, read-exactly}
 use Rattle.text.specs.Text.{same}
 use Rattle.files.specs.declared.Packing.{Packing}
 use Rattle.files.specs.kernel.Finding.{settingsIn}
 use Rattle.files.specs.Opening.{isSettings, headerIn, bodyIn, headerRefusal}
-use Rattle.files.specs.Calls.{listIn, readRefusalOf, readAnswerOf, readOutputOf, fileFor, writeAnswerOf, writeOutputOf}
+use Rattle.files.specs.Calls.{listIn, readRefusalOf, readAnswerOf, readOutputOf, fileFor, writeRefusalOf, writeAnswerOf, writeOutputOf}
 use Rattle.files.proofs.Tests.{not-set}
 use Rattle.files.proofs.Theorems.{settings-sets}
 use Rattle.programs.specs.declared.lines.Lines.{Lines}
@@ -135,16 +138,52 @@ lines-told text before n e r after h =
       values = h .1 ∙ ap (λ (t : List ℕ). over (take (length before) (linesIn t)) before) rest;
     }
 
--- a list, packed into a file
-module _ (L : ℕ) (m : Mode) (vs : List ℕ) (r : Answer) (told : r ≡ measureAnswer L m vs) where
-  pub not-measured : accepted (r .refusal) ≡ false → refusedLine (r .refusal) ≡ output (measureRefusal L m vs) (fileFor L m vs)
-  not-measured h =
-      let k : r .refusal ≡ measureRefusal L m vs = ap (λ (a : Answer). a .refusal) told in
-      let f : accepted (measureRefusal L m vs) ≡ false = ap accepted (sym k) ∙ h in
-      sym (rw (f, k))
+-- what a list's values are refused for is never 4
+measure-not-four : (L : ℕ) (m : Mode) (vs : List ℕ) → numberOf (measureRefusal L m vs) ≡ 4 → ⊥
+unfolding measureRefusal
+measure-not-four L m vs =
+    refused NotFour (not (isLanes L)) BadLanes _ (λ (e : _≡_ {A = ℕ} 1 4). omega arith)
+    (refused NotFour (ltb most (length vs)) TooMany _ (λ (e : _≡_ {A = ℕ} 7 4). omega arith)
+    (refused NotFour (not (ordered (starting m) vs)) OutOfOrder Accepted (λ (e : _≡_ {A = ℕ} 8 4). omega arith) (λ (e : _≡_ {A = ℕ} 0 4). omega arith)))
+  where
+    NotFour : Refusal → Type 0
+    NotFour k = numberOf k ≡ 4 → ⊥
 
-  pub measured : accepted (r .refusal) ≡ true → (before : List ℕ) {q : Answer} {after : List ℕ} → (q ≡ writeAnswerOf L m vs (length before)) × (after ≡ writeOutputOf L m vs before)
-      → (q ≡ outAnswer (output (measureRefusal L m vs) (fileFor L m vs)) (length before)) × (after ≡ outLeft (output (measureRefusal L m vs) (fileFor L m vs)) before)
-  measured h before {q} {after} w =
-      let g : accepted (measureRefusal L m vs) ≡ true = ap (λ (a : Answer). accepted (a .refusal)) (sym told) ∙ h in
-      (w .0 ∙ rw g, w .1 ∙ rw g)
+-- a list, packed into a file: r is what writing it answered, and `after` what that left
+module _ (L : ℕ) (m : Mode) (vs before : List ℕ) {r : Answer} {after : List ℕ} (told : (r ≡ writeAnswerOf L m vs (length before)) × (after ≡ writeOutputOf L m vs before)) where
+  abbrev Told : Type 0
+  Told = (r ≡ outAnswer (output (measureRefusal L m vs) (fileFor L m vs)) (length before)) × (after ≡ outLeft (output (measureRefusal L m vs) (fileFor L m vs)) before)
+
+  given : r .refusal ≡ writeRefusalOf L m vs (length before)
+  given = ap (λ (a : Answer). a .refusal) (told .0)
+
+  measured : accepted (measureRefusal L m vs) ≡ true → Told
+  measured g = (told .0 ∙ rw g, told .1 ∙ rw g)
+
+  -- where the values are refused, so is writing
+  stopped : accepted (measureRefusal L m vs) ≡ false → r .refusal ≡ measureRefusal L m vs
+  stopped g = given ∙ first-stops (measureRefusal L m vs) _ g
+
+  pub file-out : numberOf (r .refusal) ≡ 0 → Told
+  file-out z =
+      measured (both (measureRefusal L m vs) _ (ap accepted (sym given) ∙ ap (λ (n : ℕ). eqb n 0) z) .0)
+
+  -- 4 is the room's: there the file is not put out, and nor is the line
+  pub file-without-room : numberOf (r .refusal) ≡ 4 → Told
+  file-without-room f = go (accepted (measureRefusal L m vs)) refl
+    where
+      go : (b : Bool) → accepted (measureRefusal L m vs) ≡ b → Told
+      go true g = measured g
+      go false g = absurd (measure-not-four L m vs (ap numberOf (sym (stopped g)) ∙ f))
+
+  -- any other number is the values'
+  pub list-refused : (numberOf (r .refusal) ≡ 0 → ⊥) → (numberOf (r .refusal) ≡ 4 → ⊥) → (refusedLine (r .refusal) ≡ output (measureRefusal L m vs) (fileFor L m vs)) × (after ≡ before)
+  list-refused z f = go (accepted (measureRefusal L m vs)) refl
+    where
+      room : (b : Bool) → r .refusal ≡ refuse b NoRoom Accepted → ⊥
+      room true e = f (ap numberOf e)
+      room false e = z (ap numberOf e)
+
+      go : (b : Bool) → accepted (measureRefusal L m vs) ≡ b → (refusedLine (r .refusal) ≡ output (measureRefusal L m vs) (fileFor L m vs)) × (after ≡ before)
+      go true g = absurd (room (ltb (length before) (length (fileFor L m vs))) (given ∙ first-passes (measureRefusal L m vs) _ g))
+      go false g = (ap refusedLine (stopped g) ∙ sym (rw g), told .1 ∙ rw (first-stops (measureRefusal L m vs) (refuse (ltb (length before) (length (fileFor L m vs))) NoRoom Accepted) g, g))

@@ -17,14 +17,15 @@ use Rattle.answers.specs.Refusals.{numberOf, accepted, refuse, orElse}
 use Rattle.answers.proofs.Refusals.{apart, passed, both, refused, either}
 use Rattle.layout.proofs.Widths.{and-both}
 use Rattle.modes.specs.declared.Mode.{Mode}
-use Rattle.order.specs.Order.{most, starting, ordered, IsList}
+use Rattle.order.specs.Order.{starting, ordered}
+use Rattle.bodies.specs.List.{most, IsList}
 use Rattle.bodies.specs.Body.{bodyOf}
 use Rattle.bodies.specs.Reading.{bodyRefusal, listOf}
 use Rattle.bodies.proofs.Sizes.{body-short}
 use Rattle.bodies.proofs.Numbers.{body-only}
 use Rattle.lists.specs.Calls.{measureRefusal, readRefusal}
 use Rattle.lists.proofs.Accepts.{measure-exactly}
-use Rattle.text.specs.Text.{word, same}
+use Rattle.text.specs.Text.{word}
 use Rattle.text.proofs.Lines.{number-line-short}
 use Rattle.text.proofs.Beginnings.{same-is, is-same}
 use Rattle.files.specs.declared.heading.Header.{Header}
@@ -105,7 +106,7 @@ text-short file =
     both-is : (k : Refusal) → accepted (orElse k (readRefusalOf file most)) ≡ true → accepted (readRefusalOf file most) ≡ true
     both-is k h = both k (readRefusalOf file most) h .1
 
--- a header of at most 81 bytes, and the largest body
+-- the longest header, and the largest body
 file-length : (L : ℕ) (m : Mode) (vs : List ℕ) → accepted (measureRefusal L m vs) ≡ true → length (fileFor L m vs) ≤ 16593
 unfolding fileFor
 file-length L m vs h =

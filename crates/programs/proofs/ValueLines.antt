@@ -12,13 +12,13 @@ use lib.Seq.{take-all, drop-drop, length-take-le, take-append-le}
 use borrow.Rule.Slice.PartMut.{midOf, putMid}
 use Rattle.layout.specs.Layout.{at}
 use Rattle.answers.specs.Answers.{over}
-use Rattle.answers.proofs.Parts.{part-is, part-length}
+use Rattle.answers.proofs.Parts.{part-length}
 use Rattle.answers.proofs.Fronts.{take-more, Front, front-none, front-length, front-put, front-part}
 use Rattle.text.specs.declared.Numeral.{Numeral}
 use Rattle.text.specs.Text.{word, decimal, begins, same, fitted, numberLine}
 use Rattle.text.proofs.Decimals.{decimal-some}
 use Rattle.text.proofs.Lines.{put-whole, number-line-short, line-rest}
-use Rattle.text.proofs.Beginnings.{begins-whole, is-same}
+use Rattle.text.proofs.Beginnings.{stands-whole, is-same}
 use Rattle.text.proofs.Found.{Numbered, line-there, line-within}
 use Rattle.programs.specs.declared.lines.Lines.{Lines}
 use Rattle.programs.specs.Lines.{valueLine, valueLines}
@@ -172,13 +172,12 @@ module _ {bs before : List ℕ} {place count : ℕ} {out : List ℕ} (r : Readin
     unfolding linesFrom
     reading-more {ys} e =
         let lines : valueLines (r .done ++ (l .value ∷ [])) ≡ valueLines (r .done) ++ valueLine (l .value) [] = lines-more (r .done) (l .value) in
-        let rest : drop place bs ≡ valueLine (l .value) [] ++ drop (place + l .length) bs =
-        begins-whole (valueLine (l .value) []) (drop place bs) (line .there) ∙ ap (λ (n : ℕ). valueLine (l .value) [] ++ drop n (drop place bs)) (sym (line .size)) ∙ ap (λ (t : List ℕ). valueLine (l .value) [] ++ t) (drop-drop (l .length) place bs) in
+        let rest : drop place bs ≡ valueLine (l .value) [] ++ drop (place + l .length) bs = stands-whole (line .stands) ∙ ap (λ (t : List ℕ). valueLine (l .value) [] ++ t) (drop-drop (l .length) place bs) in
         let left : length bs - count ≡ suc (length bs - (count + 1)) = omega (arith, r .fewer) in
         record {
           done = r .done ++ (l .value ∷ []);
           size = length-append (r .done) (l .value ∷ []) ∙ ap (λ (t : ℕ). t + 1) (r .size);
-          far = ap length lines ∙ length-append (valueLines (r .done)) (valueLine (l .value) []) ∙ rw (r .far, ← line .size);
+          far = ap length lines ∙ length-append (valueLines (r .done)) (valueLine (l .value) []) ∙ rw (r .far, ← line .stands .size);
           text = r .text ∙ ap (λ (t : List ℕ). valueLines (r .done) ++ t) rest ∙ sym (append-assoc (valueLines (r .done)) (valueLine (l .value) []) (drop (place + l .length) bs)) ∙ ap (λ (t : List ℕ). t ++ drop (place + l .length) bs) (sym lines);
           fewer = omega (arith, r .fewer, some);
           onward =

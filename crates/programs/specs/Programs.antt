@@ -12,7 +12,7 @@ use Rattle.answers.specs.declared.Refusal.{Refusal}
 use Rattle.answers.specs.declared.Refusal.the-variants.{Accepted, NoRoom, BadHeader}
 use Rattle.answers.specs.Refusals.{numberOf, accepted, refuse, orElse}
 use Rattle.answers.specs.Answers.{answer, written}
-use Rattle.order.specs.Order.{most}
+use Rattle.bodies.specs.List.{most}
 use Rattle.lists.specs.Calls.{measureRefusal}
 use Rattle.text.specs.Text.{decimal, line, same}
 use Rattle.files.specs.Header.{Sets}

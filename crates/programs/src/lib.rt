@@ -4,15 +4,14 @@ use answers::Refusal;
 use files::settings;
 use lines::put_values;
 use lines::read_values;
-use lists::measure;
+use lists::MOST;
 use modes::Mode;
-use order::MOST;
 use text::put;
 use text::put_number_line;
 ghost use mathlib.Core.Path.{_≡_};
 ghost use Prim.Native.Nat.{_≤_};
 ghost use lib.ListN.{length};
-ghost use Rattle.order.specs.Order.{most};
+ghost use Rattle.bodies.specs.List.{most};
 ghost use Rattle.lists.specs.Calls.{measureRefusal};
 ghost use Rattle.files.specs.Calls.{fileFor};
 ghost use Rattle.programs.specs.Lines.{valueLines};
@@ -62,17 +61,21 @@ fn hand_out_values(values: &[u32], out: &mut [u8]) -> Answer
     hand_out(&text[..length], out)
 }
 
-// The file of a list, or the line `refused=` and the number.
+// The file of a list, or the line `refused=` and the number; 4 is the call's own.
 fn hand_out_file(lanes: usize, mode: Mode, values: &[u32], out: &mut [u8]) -> Answer
     ensures { λ r. ⌜ r ≡ outAnswer (output (measureRefusal lanes mode (now (values .entry))) (fileFor lanes mode (now (values .entry)))) (length (now (out .entry))) ⌝ }
     ensures { λ r. ⌜ now (out .exit) ≡ outLeft (output (measureRefusal lanes mode (now (values .entry))) (fileFor lanes mode (now (values .entry)))) (now (out .entry)) ⌝ }
 {
-    let measured = measure(lanes, mode, values);
-    let refusal = measured.refusal;
-    if !refusal.is_accepted() {
-        return refuse(refusal, out);
+    let written = files::write(lanes, mode, values, &mut out[..]);
+    let refusal = written.refusal;
+    let number = refusal.number();
+    if number == 0 {
+        return written;
     }
-    files::write(lanes, mode, values, out)
+    if number == 4 {
+        return written;
+    }
+    refuse(refusal, &mut out[..])
 }
 
 // The list of a file, each value in decimal on its own line, or the line `refused=` and the number.

@@ -1,5 +1,5 @@
 -- Whether bytes begin with a text.
-use mathlib.Core.Path.{_≡_, refl, sym, _∙_, ap}
+use mathlib.Core.Path.{_≡_, refl, sym, _∙_, ap, ap₂}
 use mathlib.Core.Bool.{Bool, true, false, _&&_}
 use mathlib.Core.List.{List, [], _∷_, _++_, append-nil}
 use Prim.Native.Nat.{ℕ, suc, _+_, _≤_, _<_}
@@ -66,6 +66,30 @@ begins-append (x ∷ t) u (b ∷ bs) = go (eqb x b) (begins-append t u bs)
     go : (e : Bool) → begins (t ++ u) bs ≡ begins t bs && begins u (drop (length t) bs) → e && begins (t ++ u) bs ≡ (e && begins t bs) && begins u (drop (length t) bs)
     go true rest = rest
     go false rest = refl
+
+-- bs begins with the text t, which has n bytes
+pub record Stands (t : List ℕ) (n : ℕ) (bs : List ℕ) : Type 0 where
+  pub there : begins t bs ≡ true
+  pub size : n ≡ length t
+
+module _ {t : List ℕ} {n : ℕ} {bs : List ℕ} (s : Stands t n bs) where
+  pub stands-whole : bs ≡ t ++ drop n bs
+  stands-whole = begins-whole t bs (s .there) ∙ ap (λ (k : ℕ). t ++ drop k bs) (sym (s .size))
+
+  pub stands-within : n ≤ length bs
+  stands-within = rw (s .size) (begins-within t bs (s .there))
+
+  -- with another text behind it
+  pub stands-then : {u : List ℕ} {k : ℕ} → Stands u k (drop n bs) → Stands (t ++ u) (n + k) bs
+  stands-then {u} {k} r =
+      record {
+        there = begins-append t u bs ∙ rw (s .there) (ap (λ (j : ℕ). begins u (drop j bs)) (sym (s .size)) ∙ r .there);
+        size = ap₂ (λ (a b : ℕ). a + b) (s .size) (r .size) ∙ sym (length-append t u);
+      }
+
+-- each of two texts
+pub begins-both : (t u bs : List ℕ) → begins (t ++ u) bs ≡ true → (begins t bs ≡ true) × (begins u (drop (length t) bs) ≡ true)
+begins-both t u bs h = and-both (begins t bs) _ (sym (begins-append t u bs) ∙ h)
 
 -- bytes are the same as a text exactly where they are equal to it
 pub same-is : (t bs : List ℕ) → same t bs ≡ true → bs ≡ t

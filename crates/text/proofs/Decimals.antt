@@ -39,7 +39,12 @@ value-digits (suc k) n h =
     let less : n / 10 < 10 ^ k = div-lt-iff-lt-mul {k = 10} (omega arith) .1 (rw pow-suc at h) in
     value-more 0 (digits k (n / 10)) (48 + n % 10) ∙ rw (value-digits k (n / 10) less) (omega arith)
 
--- as many as are needed
+-- as many as are needed, and no more
+
+pub places-one : (more n : ℕ) → n < 10 → places more n ≡ 1
+unfolding places
+places-one zero n h = refl
+places-one (suc more) n h = rw (lt-ltb n 10 h)
 
 pub places-some : (more n : ℕ) → 0 < places more n
 unfolding places
@@ -59,7 +64,7 @@ places-few (suc more) n = go (places-few more (n / 10)) (decLt n 10)
     go ih (yes h) = rw (lt-ltb n 10 h) (omega arith)
     go ih (no h) = rw (le-ltb n 10 (omega arith)) (omega arith)
 
-places-enough : (more n : ℕ) → n < 10 ^ suc more → n < 10 ^ places more n
+pub places-enough : (more n : ℕ) → n < 10 ^ suc more → n < 10 ^ places more n
 unfolding places
 places-enough zero n h = h
 places-enough (suc more) n h = go (places-enough more (n / 10)) (decLt n 10)
@@ -70,17 +75,46 @@ places-enough (suc more) n h = go (places-enough more (n / 10)) (decLt n 10)
         let less : n / 10 < 10 ^ suc more = div-lt-iff-lt-mul {k = 10} (omega arith) .1 (rw pow-suc at h) in
         rw (le-ltb n 10 (omega arith), pow-suc) (div-lt-iff-lt-mul {k = 10} (omega arith) .0 (ih less))
 
+-- a number below 10 to the power k has at most k digits, and one from there on has more
+places-below : (more k n : ℕ) → n < 10 ^ suc k → places more n ≤ suc k
+unfolding places
+places-below zero k n h = omega arith
+places-below (suc more) zero n h = rw (lt-ltb n 10 h) (omega arith)
+places-below (suc more) (suc k) n h = go (places-below more k (n / 10) (div-lt-iff-lt-mul {k = 10} (omega arith) .1 (rw pow-suc at h))) (decLt n 10)
+  where
+    go : places more (n / 10) ≤ suc k → Dec (n < 10) → places (suc more) n ≤ suc (suc k)
+    go ih (yes less) = rw (lt-ltb n 10 less) (omega arith)
+    go ih (no more) = rw (le-ltb n 10 (omega arith)) (omega arith)
+
+pub places-least : (more n : ℕ) → 0 < n → 10 ^ (places more n - 1) ≤ n
+unfolding places
+places-least zero n pos = pos
+places-least (suc more) n pos = go (places-least more (n / 10)) (places more (n / 10)) refl (places-some more (n / 10)) (decLt n 10)
+  where
+    go : (0 < n / 10 → 10 ^ (places more (n / 10) - 1) ≤ n / 10) → (p : ℕ) → places more (n / 10) ≡ p → 0 < p → Dec (n < 10) → 10 ^ (places (suc more) n - 1) ≤ n
+    go ih p e some (yes lt) = rw (lt-ltb n 10 lt) pos
+    go ih zero e some (no ge) = absurd (omega arith)
+    go ih (suc q) e some (no ge) =
+        let one : suc q - 1 ≡ q = omega arith in
+        let two : suc (suc q) - 1 ≡ suc q = omega arith in
+        let low : 10 ^ q ≤ n / 10 = rw (e, one) at (ih (omega arith)) in
+        rw (le-ltb n 10 (omega arith), e, two, pow-suc) (omega (arith, low))
+
 -- a decimal number below 2 to the power 32
 
 pub decimal-short : (n : ℕ) → length (decimal n) ≤ 10
 unfolding decimal
 decimal-short n = rw (length-digits (places 9 n) n) (places-few 9 n)
 
+pub decimal-below : (k n : ℕ) → n < 10 ^ suc k → length (decimal n) ≤ suc k
+unfolding decimal
+decimal-below k n h = rw (length-digits (places 9 n) n) (places-below 9 k n h)
+
 pub decimal-some : (n : ℕ) → 0 < length (decimal n)
 unfolding decimal
 decimal-some n = rw (length-digits (places 9 n) n) (places-some 9 n)
 
-decimal-value : (n : ℕ) → n < 2 ^ 32 → valueFrom 0 (decimal n) ≡ n
+pub decimal-value : (n : ℕ) → n < 2 ^ 32 → valueFrom 0 (decimal n) ≡ n
 unfolding decimal
 decimal-value n h = value-digits (places 9 n) n (places-enough 9 n (omega arith))
 

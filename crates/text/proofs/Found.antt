@@ -10,14 +10,13 @@ use lib.Seq.{drop-at}
 use Rattle.text.specs.declared.Numeral.{Numeral}
 use Rattle.text.specs.Text.{decimal, numbered, begins, numberIn, numberLine}
 use Rattle.text.proofs.Decimals.{number-back}
-use Rattle.text.proofs.Beginnings.{begins-whole, begins-within, begins-append}
+use Rattle.text.proofs.Beginnings.{begins-whole, begins-within, begins-append, Stands}
 use Rattle.text.proofs.Lines.{line-length, numbered-rest}
 
 -- bs begins with the line of a name and a number, and r says which
 pub record Numbered (name bs : List ℕ) (r : Numeral) : Type 0 where
   pub small : r .value < 2 ^ 32
-  pub there : begins (numbered name (r .value)) bs ≡ true
-  pub size : r .length ≡ length (numbered name (r .value))
+  pub stands : Stands (numbered name (r .value)) (r .length) bs
 
 module _ (name bs : List ℕ) where
   abbrev number : ℕ
@@ -50,7 +49,7 @@ module _ (name bs : List ℕ) where
   line-there some = go (begins (numbered name number) bs) refl
     where
       go : (b : Bool) → begins (numbered name (numberIn (drop (length name) bs))) bs ≡ b → Numbered name bs (numberLine name bs)
-      go true h = rw (is-line h) (record { small = mod-lt _ (omega arith); there = h; size = refl })
+      go true h = rw (is-line h) (record { small = mod-lt _ (omega arith); stands = record { there = h; size = refl } })
       go false h = absurd (some (ap (λ (r : Numeral). r .length) (no-line h)))
 
   pub line-found : (v : ℕ) → v < 2 ^ 32 → begins (numbered name v) bs ≡ true → numberLine name bs ≡ record { value = v; length = length (numbered name v) }

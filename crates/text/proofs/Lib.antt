@@ -5,3 +5,4 @@ pub mod Lines
 pub mod Beginnings
 pub mod Found
 pub mod Determined
+pub mod Claims

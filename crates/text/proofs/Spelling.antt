@@ -5,19 +5,14 @@ use Prim.Native.Nat.{ℕ, zero, suc, _+_, _*_, _-_, _/_, _%_, _^_, _≤_, _<_}
 use native.Mathlib.Nat.{pow-suc, div-div-eq-div-mul, div-one, mul-div-cancel, div-mul-le-self, mul-le-mul-right, zero-add}
 use native.Mathlib.Omega.{arith}
 use native.Mathlib.Decide.{decLt}
-use borrow.Author.Tests.{lt-ltb, le-ltb}
+use borrow.Author.Tests.{le-ltb}
 use lib.ListN.{length, set, length-append}
 use Rattle.answers.specs.Answers.{over}
 use Rattle.answers.proofs.Fronts.{Front, front-none, front-length, front-put}
 use Rattle.text.specs.Text.{digits, places, decimal}
-use Rattle.text.proofs.Decimals.{length-digits, digits-front, places-some, decimal-short}
+use Rattle.text.proofs.Decimals.{length-digits, digits-front, places-one, places-some, decimal-short}
 
 -- the power of the highest digit
-
-places-one : (more n : ℕ) → n < 10 → places more n ≡ 1
-unfolding places
-places-one zero n h = refl
-places-one (suc more) n h = rw (lt-ltb n 10 h)
 
 -- p is ten to the power of k, and k digits of x have been counted
 pub record Counting (x p : ℕ) : Type 0 where
@@ -31,7 +26,7 @@ counting-none x =
     let e : x / 1 ≡ x = div-one x in
     record { k = 0; few = omega arith; power = refl; same = rw (zero-add, e) }
 
-power-some : (k : ℕ) → 0 < 10 ^ k
+pub power-some : (k : ℕ) → 0 < 10 ^ k
 power-some zero = omega arith
 power-some (suc k) = rw pow-suc (omega (arith, power-some k))
 

@@ -1,7 +1,7 @@
 // Words, decimal numbers and lines as bytes: written at the front of an output, and found at the front of some bytes.
 ghost use mathlib.Core.Path.{_≡_};
 ghost use mathlib.Core.List.{[], _∷_, _++_};
-ghost use Prim.Native.Nat.{ℕ, _+_, _-_, _^_, _≤_};
+ghost use Prim.Native.Nat.{_+_, _-_, _^_, _≤_};
 ghost use lib.ListN.{length};
 ghost use Rattle.answers.specs.Answers.{over};
 ghost use Rattle.text.specs.Text.{places, decimal, numbered, fitted, begins, leading, valueFrom, numberIn, numberLine};

@@ -1,9 +1,9 @@
 -- A refusal is passed on with length 0 and nothing written; else `pack` writes the payload.
-use mathlib.Core.Path.{_≡_, sym, _∙_}
+use mathlib.Core.Path.{_≡_}
 use mathlib.Core.Bool.{true}
 use lib.ListN.{length}
 use native.Mathlib.Omega.{arith}
-use borrow.Author.Tests.{not-true, not-false}
+use Rattle.answers.proofs.Guards.{denied, granted}
 use Rattle.layout.specs.Layout.{at, packed}
 use Rattle.modes.specs.Entries.{entries}
 use Rattle.answers.specs.Refusals.{accepted}
@@ -15,7 +15,7 @@ use Rattle.blocks.proofs.compress.Statement.{statement}
 use Rattle.blocks.proofs.compress.Tie as tie
 
 yes-accepted : (c : tie.Else1) → accepted (c .before .before .pack-refusal .result) ≡ true
-yes-accepted c = sym (c .before .is-accepted .ensures) ∙ not-false _ (c .if1 .left)
+yes-accepted c = granted (c .before .is-accepted .ensures) (c .if1 .left)
 
 able : (c : tie.Else1) → Packable (c .before .before .before .before .before .args .lanes) (c .before .before .before .before .before .args .mode) (c .before .before .before .before .before .args .decompressed .now) (length (c .before .before .before .before .before .args .compressed .now)) (c .before .before .before .before .before .args .width)
 able c = pack-exactly _ _ _ _ _ .0 (rw (c .before .before .pack-refusal .ensures) at (yes-accepted c))
@@ -24,7 +24,7 @@ returns : tie.Need-returns
 returns c =
     let t = c .before in
     let k = t .before .before .pack-refusal .ensures in
-    let h = sym (t .before .is-accepted .ensures) ∙ not-true _ (t .if1 .taken) in
+    let h = denied (t .before .is-accepted .ensures) (t .if1 .taken) in
     let a = t .before .before .before .before .before .args in
     (refused k h (c .refused .ensures) _, untouched k h (packed (a .lanes) (a .width) (entries (a .mode) (at (a .decompressed .now)))) _)
 

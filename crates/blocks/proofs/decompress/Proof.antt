@@ -1,8 +1,8 @@
 -- A refusal is passed on with length 0 and nothing written; else `unpack` writes the values.
-use mathlib.Core.Path.{_≡_, sym, _∙_}
+use mathlib.Core.Path.{_≡_}
 use mathlib.Core.Bool.{true}
 use lib.ListN.{length}
-use borrow.Author.Tests.{not-true, not-false}
+use Rattle.answers.proofs.Guards.{denied, granted}
 use Rattle.blocks.specs.Calls.{unpacked}
 use Rattle.answers.specs.Refusals.{accepted}
 use Rattle.layout.proofs.LaneCounts.{lanes-of}
@@ -13,7 +13,7 @@ use Rattle.blocks.proofs.decompress.Statement.{statement}
 use Rattle.blocks.proofs.decompress.Tie as tie
 
 yes-accepted : (c : tie.Else1) → accepted (c .before .before .unpack-refusal .result) ≡ true
-yes-accepted c = sym (c .before .is-accepted .ensures) ∙ not-false _ (c .if1 .left)
+yes-accepted c = granted (c .before .is-accepted .ensures) (c .if1 .left)
 
 able : (c : tie.Else1) → Unpackable (c .before .before .before .before .before .args .lanes) (length (c .before .before .before .before .before .args .compressed .now)) (length (c .before .before .before .before .before .args .decompressed .now)) (c .before .before .before .before .before .args .width)
 able c = unpack-exactly _ _ _ _ .0 (rw (c .before .before .unpack-refusal .ensures) at (yes-accepted c))
@@ -22,7 +22,7 @@ returns : tie.Need-returns
 returns c =
     let t = c .before in
     let k = t .before .before .unpack-refusal .ensures in
-    let h = sym (t .before .is-accepted .ensures) ∙ not-true _ (t .if1 .taken) in
+    let h = denied (t .before .is-accepted .ensures) (t .if1 .taken) in
     let a = t .before .before .before .before .before .args in
     (refused k h (c .refused .ensures) _, untouched k h (unpacked (a .lanes) (a .mode) (a .compressed .now) (a .width)) _)
 

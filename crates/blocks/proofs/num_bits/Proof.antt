@@ -1,9 +1,9 @@
 -- A refusal is passed on with width 0; else the width is the block's least.
-use mathlib.Core.Path.{_≡_, sym, _∙_}
+use mathlib.Core.Path.{_≡_}
 use mathlib.Core.Bool.{true}
 use lib.ListN.{length}
 use native.Mathlib.Omega.{arith}
-use borrow.Author.Tests.{not-true, not-false}
+use Rattle.answers.proofs.Guards.{denied, granted}
 use Rattle.answers.specs.Refusals.{accepted}
 use Rattle.layout.proofs.LaneCounts.{lanes-of}
 use Rattle.blocks.proofs.Tests.{Measurable, width-exactly}
@@ -13,14 +13,14 @@ use Rattle.blocks.proofs.num_bits.Statement.{statement}
 use Rattle.blocks.proofs.num_bits.Tie as tie
 
 yes-accepted : (c : tie.Else1) → accepted (c .before .before .width-refusal .result) ≡ true
-yes-accepted c = sym (c .before .is-accepted .ensures) ∙ not-false _ (c .if1 .left)
+yes-accepted c = granted (c .before .is-accepted .ensures) (c .if1 .left)
 
 able : (c : tie.Else1) → Measurable (c .before .before .before .before .args .lanes) (length (c .before .before .before .before .args .decompressed .now))
 able c = width-exactly _ _ .0 (rw (c .before .before .width-refusal .ensures) at (yes-accepted c))
 
 returns : tie.Need-returns
 returns c =
-    unmeasured (c .before .before .width-refusal .ensures) (sym (c .before .is-accepted .ensures) ∙ not-true _ (c .if1 .taken)) _
+    unmeasured (c .before .before .width-refusal .ensures) (denied (c .before .is-accepted .ensures) (c .if1 .taken)) _
 
 least-width-requires : tie.Need-least-width-requires
 least-width-requires c κs =

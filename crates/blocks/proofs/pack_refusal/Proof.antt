@@ -1,10 +1,11 @@
 -- Each test that passed or failed is the definition's, in its order; a block fits a width exactly from its least width on.
-use mathlib.Core.Path.{_≡_, sym, _∙_}
+use mathlib.Core.Path.{_≡_}
 use mathlib.Core.Bool.{true}
 use Prim.Native.Nat.{_*_}
 use native.Mathlib.Omega.{arith}
-use borrow.Author.Tests.{lt-ltb, le-ltb, eq-eqb, ne-eqb, not-true, not-false}
+use borrow.Author.Tests.{lt-ltb, le-ltb, eq-eqb, ne-eqb}
 use lib.ListN.{length}
+use Rattle.answers.proofs.Guards.{denied, granted}
 use Rattle.layout.specs.Layout.{at, blockSize, payloadSize, isLanes}
 use Rattle.layout.proofs.Widths.{fits-exactly, fits-not}
 use Rattle.layout.specs.Claims.{Fit}
@@ -16,7 +17,7 @@ use Rattle.blocks.proofs.pack_refusal.Statement.{statement}
 use Rattle.blocks.proofs.pack_refusal.Tie as tie
 
 good : (c : tie.Else1) → isLanes (c .before .before .before .args .lanes) ≡ true
-good c = sym (c .before .is-lanes .ensures) ∙ not-false _ (c .if1 .left)
+good c = granted (c .before .is-lanes .ensures) (c .if1 .left)
 
 -- every entry is a number of 32 bits
 small : (c : tie.Else3) → Fit (entries (c .before .before .before .before .before .args .mode) (at (c .before .before .before .before .before .args .values .now))) (blockSize (c .before .before .before .before .before .args .lanes)) 32
@@ -26,7 +27,7 @@ small c =
     λ k h. entries-small (a .mode) (at (a .values .now)) k (g k .fits)
 
 returns : tie.Need-returns
-returns c = rw (sym (c .before .is-lanes .ensures) ∙ not-true _ (c .if1 .taken))
+returns c = rw (denied (c .before .is-lanes .ensures) (c .if1 .taken))
 
 returns-2 : tie.Need-returns-2
 returns-2 c = rw (good (c .before), lt-ltb 32 (c .before .before .before .before .args .width) (c .if2 .taken))

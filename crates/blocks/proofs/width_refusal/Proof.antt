@@ -1,9 +1,10 @@
 -- Each test that passed or failed is the definition's, in its order.
-use mathlib.Core.Path.{_≡_, sym, _∙_}
+use mathlib.Core.Path.{_≡_}
 use mathlib.Core.Bool.{true}
 use Prim.Native.Nat.{_*_}
 use native.Mathlib.Omega.{arith}
-use borrow.Author.Tests.{eq-eqb, ne-eqb, not-true, not-false}
+use borrow.Author.Tests.{eq-eqb, ne-eqb}
+use Rattle.answers.proofs.Guards.{denied, granted}
 use Rattle.layout.specs.Layout.{isLanes}
 use Rattle.layout.proofs.LaneCounts.{lanes-of}
 use borrow.Author.Needs.{needs}
@@ -11,10 +12,10 @@ use Rattle.blocks.proofs.width_refusal.Statement.{statement}
 use Rattle.blocks.proofs.width_refusal.Tie as tie
 
 good : (c : tie.Else1) → isLanes (c .before .before .args .lanes) ≡ true
-good c = sym (c .before .is-lanes .ensures) ∙ not-false _ (c .if1 .left)
+good c = granted (c .before .is-lanes .ensures) (c .if1 .left)
 
 returns : tie.Need-returns
-returns c = rw (sym (c .before .is-lanes .ensures) ∙ not-true _ (c .if1 .taken))
+returns c = rw (denied (c .before .is-lanes .ensures) (c .if1 .taken))
 
 mul-if2 : tie.Need-mul-if2
 mul-if2 c = omega (arith, lanes-of _ (good c))

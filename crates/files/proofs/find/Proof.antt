@@ -1,8 +1,8 @@
 -- The settings, and then the count and bytes lines.
-use mathlib.Core.Path.{_≡_, sym, _∙_}
+use mathlib.Core.Path.{_≡_, _∙_}
 use mathlib.Core.Bool.{true}
 use native.Mathlib.Omega.{arith}
-use borrow.Author.Tests.{not-true, not-false}
+use Rattle.answers.proofs.Guards.{denied, granted}
 use Rattle.answers.specs.Refusals.{accepted}
 use Rattle.files.proofs.Tests.{no-settings, settings-within, no-sizes, header-is, sizes-within}
 use borrow.Author.Needs.{needs}
@@ -21,10 +21,10 @@ returns c =
     let t = c .before in
     let i = t .before in
     let s = i .before in
-    c .nothing .ensures ∙ no-settings (start s .args .file .now) _ (s .settings .ensures) (sym (i .is-accepted .ensures) ∙ not-true _ (t .if1 .taken))
+    c .nothing .ensures ∙ no-settings (start s .args .file .now) _ (s .settings .ensures) (denied (i .is-accepted .ensures) (t .if1 .taken))
 
 good : (e : tie.Else1) → accepted (set e .settings .result .refusal) ≡ true
-good e = sym (e .before .is-accepted .ensures) ∙ not-false _ (e .if1 .left)
+good e = granted (e .before .is-accepted .ensures) (e .if1 .left)
 
 sub-size-lines : tie.Need-sub-size-lines
 sub-size-lines c = settings-within (start (set c) .args .file .now) _ (set c .settings .ensures) (good c)

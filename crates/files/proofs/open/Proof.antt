@@ -1,7 +1,7 @@
 -- The bytes from where the body starts, or none.
-use mathlib.Core.Path.{_≡_, sym, _∙_}
+use mathlib.Core.Path.{_≡_}
 use mathlib.Core.Bool.{true}
-use borrow.Author.Tests.{not-true, not-false}
+use Rattle.answers.proofs.Guards.{denied, granted}
 use Rattle.files.specs.Opening.{isFile}
 use Rattle.files.proofs.Tests.{told, part-within, part-told}
 use borrow.Author.Needs.{needs}
@@ -13,13 +13,13 @@ returns c =
     let t = c .before in
     let i = t .before in
     let f = i .before in
-    rw (told (f .before .before .args .file .now) _ (f .find-file .ensures) _ (sym (i .is-accepted .ensures) ∙ not-true _ (t .if1 .taken)))
+    rw (told (f .before .before .args .file .now) _ (f .find-file .ensures) _ (denied (i .is-accepted .ensures) (t .if1 .taken)))
 
 abbrev start : tie.Else1 → tie.Start
 start e = e .before .before .before .before
 
 good : (e : tie.Else1) → isFile (start e .args .file .now) ≡ true
-good e = told (start e .args .file .now) _ (e .before .before .find-file .ensures) _ (sym (e .before .is-accepted .ensures) ∙ not-false _ (e .if1 .left))
+good e = told (start e .args .file .now) _ (e .before .before .find-file .ensures) _ (granted (e .before .is-accepted .ensures) (e .if1 .left))
 
 sub-result : tie.Need-sub-result
 sub-result c = part-within (start c .args .file .now) _ (c .before .before .find-file .ensures)

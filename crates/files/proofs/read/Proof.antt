@@ -1,7 +1,7 @@
 -- 12, and then as a list.
-use mathlib.Core.Path.{_≡_, sym, _∙_}
+use mathlib.Core.Path.{_≡_}
 use mathlib.Core.Bool.{true}
-use borrow.Author.Tests.{not-true, not-false}
+use Rattle.answers.proofs.Guards.{denied, granted}
 use Rattle.files.specs.Opening.{isFile}
 use Rattle.files.proofs.Tests.{told, part-within, part-told, bad-file, good-file}
 use borrow.Author.Needs.{needs}
@@ -14,13 +14,13 @@ returns c =
     let i = t .before in
     let f = i .before in
     let s = f .before .before .before in
-    bad-file (s .args .file .now) _ (f .find-file .ensures) (sym (i .is-accepted .ensures) ∙ not-true _ (t .if1 .taken)) (s .args .values .now) (c .refused .ensures)
+    bad-file (s .args .file .now) _ (f .find-file .ensures) (denied (i .is-accepted .ensures) (t .if1 .taken)) (s .args .values .now) (c .refused .ensures)
 
 abbrev start : tie.Else1 → tie.Start
 start e = e .before .before .before .before .before
 
 good : (e : tie.Else1) → isFile (start e .args .file .now) ≡ true
-good e = told (start e .args .file .now) _ (e .before .before .find-file .ensures) _ (sym (e .before .is-accepted .ensures) ∙ not-false _ (e .if1 .left))
+good e = told (start e .args .file .now) _ (e .before .before .find-file .ensures) _ (granted (e .before .is-accepted .ensures) (e .if1 .left))
 
 sub-read : tie.Need-sub-read
 sub-read c = part-within (start (c .before) .args .file .now) _ (c .before .before .before .find-file .ensures)

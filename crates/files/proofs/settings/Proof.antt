@@ -1,8 +1,8 @@
 -- The lanes line, and then the mode and first lines.
-use mathlib.Core.Path.{_≡_, sym, _∙_}
+use mathlib.Core.Path.{_≡_}
 use mathlib.Core.Bool.{true}
 use native.Mathlib.Omega.{arith}
-use borrow.Author.Tests.{not-true, not-false}
+use Rattle.answers.proofs.Guards.{denied, granted}
 use Rattle.layout.specs.Layout.{isLanes}
 use Rattle.files.proofs.Tests.{lanes-within, no-lanes, no-mode, settings-are, mode-within}
 use borrow.Author.Needs.{needs}
@@ -20,10 +20,10 @@ returns : tie.Need-returns
 returns c =
     let i = c .before in
     let n = i .before in
-    no-lanes (start n .args .text .now) _ (n .number-line .ensures) (sym (i .is-lanes .ensures) ∙ not-true _ (c .if1 .taken))
+    no-lanes (start n .args .text .now) _ (n .number-line .ensures) (denied (i .is-lanes .ensures) (c .if1 .taken))
 
 good : (e : tie.Else1) → isLanes (laned e .number-line .result .value) ≡ true
-good e = sym (e .before .is-lanes .ensures) ∙ not-false _ (e .if1 .left)
+good e = granted (e .before .is-lanes .ensures) (e .if1 .left)
 
 sub-mode-lines : tie.Need-sub-mode-lines
 sub-mode-lines c = lanes-within (start (laned c) .args .text .now) _ (laned c .number-line .ensures)

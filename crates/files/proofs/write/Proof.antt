@@ -1,13 +1,14 @@
 -- What the values are refused for; the room; the header's text and the body.
-use mathlib.Core.Path.{_≡_, sym, _∙_}
+use mathlib.Core.Path.{_≡_, sym}
 use mathlib.Core.Bool.{true}
 use Prim.Native.Nat.{_^_, _≤_, _<_}
 use native.Mathlib.Omega.{arith}
-use borrow.Author.Tests.{not-true, not-false}
 use lib.ListN.{length}
 use lib.Seq.{length-take-le}
+use Rattle.answers.proofs.Guards.{denied, granted}
 use Rattle.answers.specs.Refusals.{accepted}
 use Rattle.layout.proofs.LaneCounts.{lanes-of}
+use Rattle.files.specs.kernel.Lengths.{longestHeader}
 use Rattle.files.proofs.Filing.{not-measured, able, length-small, text-small, no-room, head-within, file-kept, file-done}
 use borrow.Author.Needs.{needs}
 use Rattle.files.proofs.write.Statement.{statement}
@@ -17,10 +18,10 @@ returns : tie.Need-returns
 returns c =
     let t = c .before in
     let s = t .before .before .before .before .before in
-    not-measured (s .args .lanes) (s .args .mode) (s .args .values .now) (s .args .file .now) (t .before .before .measure .ensures) (sym (t .before .is-accepted .ensures) ∙ not-true _ (t .if1 .taken)) (c .refused .ensures)
+    not-measured (s .args .lanes) (s .args .mode) (s .args .values .now) (s .args .file .now) (t .before .before .measure .ensures) (denied (t .before .is-accepted .ensures) (t .if1 .taken)) (c .refused .ensures)
 
 ok : (c : tie.Else1) → accepted (c .before .before .measure .result .refusal) ≡ true
-ok c = sym (c .before .is-accepted .ensures) ∙ not-false _ (c .if1 .left)
+ok c = granted (c .before .is-accepted .ensures) (c .if1 .left)
 
 cast-t13 : tie.Need-cast-t13
 cast-t13 c =
@@ -40,7 +41,7 @@ small c =
 cast-t16 : tie.Need-cast-t16
 cast-t16 c = omega (arith, small c)
 
-short : (p : tie.After-put-header) → p .put-header .result ≤ 81
+short : (p : tie.After-put-header) → p .put-header .result ≤ longestHeader
 short p =
     let e = p .before .before in
     let s = e .before .before .before .before .before in

@@ -1,7 +1,8 @@
 -- Lanes and count, and then the body.
-use mathlib.Core.Path.{_≡_, sym, _∙_}
+use mathlib.Core.Path.{_≡_, _∙_}
 use mathlib.Core.Bool.{true}
-use borrow.Author.Tests.{lt-ltb, le-ltb, not-true, not-false}
+use borrow.Author.Tests.{lt-ltb, le-ltb}
+use Rattle.answers.proofs.Guards.{denied, granted}
 use Rattle.layout.specs.Layout.{isLanes}
 use borrow.Author.Needs.{needs}
 use Rattle.lists.proofs.check.Statement.{statement}
@@ -10,10 +11,10 @@ use Rattle.lists.proofs.check.Tie as tie
 returns : tie.Need-returns
 returns c =
     let t = c .before in
-    c .nothing .ensures ∙ rw (sym (t .before .is-lanes .ensures) ∙ not-true _ (t .if1 .taken))
+    c .nothing .ensures ∙ rw (denied (t .before .is-lanes .ensures) (t .if1 .taken))
 
 good : (c : tie.Else1) → isLanes (c .before .before .before .args .lanes) ≡ true
-good c = sym (c .before .is-lanes .ensures) ∙ not-false _ (c .if1 .left)
+good c = granted (c .before .is-lanes .ensures) (c .if1 .left)
 
 returns-2 : tie.Need-returns-2
 returns-2 c =

@@ -3,7 +3,7 @@ use mathlib.Core.Path.{_≡_, refl, sym, _∙_, ap}
 use mathlib.Core.Bool.{true, not}
 use Prim.Native.Nat.{ℕ, _+_}
 use native.Mathlib.Omega.{arith}
-use borrow.Author.Tests.{not-true, not-false}
+use Rattle.answers.proofs.Guards.{denied, granted}
 use Rattle.layout.specs.Layout.{isLanes, payloadSize}
 use Rattle.answers.specs.declared.Refusal.the-variants.{BadLanes}
 use Rattle.answers.specs.Refusals.{accepted, refuse}
@@ -19,11 +19,11 @@ returns : tie.Need-returns
 returns c =
     let t = c .before in
     let a = t .before .before .before .args in
-    let told : BadLanes ≡ refuse (not (isLanes (a .lanes))) BadLanes (frameRefusal (a .lanes) (a .bytes .now)) = rw (sym (t .before .is-lanes .ensures) ∙ not-true _ (t .if1 .taken)) in
+    let told : BadLanes ≡ refuse (not (isLanes (a .lanes))) BadLanes (frameRefusal (a .lanes) (a .bytes .now)) = rw (denied (t .before .is-lanes .ensures) (t .if1 .taken)) in
     refused told refl (c .refused .ensures) _
 
 good : (c : tie.Else1) → isLanes (c .before .before .before .args .lanes) ≡ true
-good c = sym (c .before .is-lanes .ensures) ∙ not-false _ (c .if1 .left)
+good c = granted (c .before .is-lanes .ensures) (c .if1 .left)
 
 frame-refusal-requires : tie.Need-frame-refusal-requires
 frame-refusal-requires c κs = good c
@@ -32,10 +32,10 @@ returns-2 : tie.Need-returns-2
 returns-2 c =
     let t = c .before in
     let f = t .before .before in
-    refused (rw (good (f .before)) (f .frame-refusal .ensures)) (sym (t .before .is-accepted .ensures) ∙ not-true _ (t .if2 .taken)) (c .refused2 .ensures) _
+    refused (rw (good (f .before)) (f .frame-refusal .ensures)) (denied (t .before .is-accepted .ensures) (t .if2 .taken)) (c .refused2 .ensures) _
 
 accepted-there : (c : tie.Else2) → accepted (c .before .before .frame-refusal .result) ≡ true
-accepted-there c = sym (c .before .is-accepted .ensures) ∙ not-false _ (c .if2 .left)
+accepted-there c = granted (c .before .is-accepted .ensures) (c .if2 .left)
 
 there : (c : tie.Else2) → Framed (c .before .before .before .before .before .before .args .lanes) (c .before .before .before .before .before .before .args .bytes .now)
 there c = framed _ _ (ap accepted (sym (c .before .before .frame-refusal .ensures)) ∙ accepted-there c)

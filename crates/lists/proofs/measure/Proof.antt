@@ -1,7 +1,7 @@
 -- A refusal is passed on with length 0; else the body's length.
-use mathlib.Core.Path.{_≡_, sym, _∙_}
+use mathlib.Core.Path.{_≡_}
 use mathlib.Core.Bool.{true}
-use borrow.Author.Tests.{not-true, not-false}
+use Rattle.answers.proofs.Guards.{denied, granted}
 use Rattle.answers.specs.Refusals.{accepted}
 use Rattle.answers.proofs.Answers.{refused, answered}
 use Rattle.lists.proofs.Accepts.{measure-exactly}
@@ -10,12 +10,12 @@ use Rattle.lists.proofs.measure.Statement.{statement}
 use Rattle.lists.proofs.measure.Tie as tie
 
 yes-accepted : (c : tie.Else1) → accepted (c .before .before .measure-refusal .result) ≡ true
-yes-accepted c = sym (c .before .is-accepted .ensures) ∙ not-false _ (c .if1 .left)
+yes-accepted c = granted (c .before .is-accepted .ensures) (c .if1 .left)
 
 returns : tie.Need-returns
 returns c =
     let t = c .before in
-    refused (t .before .before .measure-refusal .ensures) (sym (t .before .is-accepted .ensures) ∙ not-true _ (t .if1 .taken)) (c .refused .ensures) _
+    refused (t .before .before .measure-refusal .ensures) (denied (t .before .is-accepted .ensures) (t .if1 .taken)) (c .refused .ensures) _
 
 body-length-requires : tie.Need-body-length-requires
 body-length-requires c κs =

@@ -1,7 +1,8 @@
 -- Each test is the definition's, in its order.
-use mathlib.Core.Path.{_≡_, sym, _∙_}
+use mathlib.Core.Path.{_≡_, _∙_}
 use mathlib.Core.Bool.{true}
-use borrow.Author.Tests.{lt-ltb, le-ltb, not-true, not-false}
+use borrow.Author.Tests.{lt-ltb, le-ltb}
+use Rattle.answers.proofs.Guards.{denied, granted}
 use Rattle.layout.specs.Layout.{isLanes}
 use Rattle.order.specs.Order.{starting, ordered}
 use Rattle.lists.specs.Calls.{measureRefusal}
@@ -10,7 +11,7 @@ use Rattle.lists.proofs.measure_refusal.Statement.{statement}
 use Rattle.lists.proofs.measure_refusal.Tie as tie
 
 good : (c : tie.Else1) → isLanes (c .before .before .before .args .lanes) ≡ true
-good c = sym (c .before .is-lanes .ensures) ∙ not-false _ (c .if1 .left)
+good c = granted (c .before .is-lanes .ensures) (c .if1 .left)
 
 -- what `in_order` told is of the mode that a list starts with
 told : (c : tie.After-in-order) → c .in-order .result ≡ ordered (starting (c .before .before .before .before .before .before .args .mode)) (c .before .before .before .before .before .before .args .values .now)
@@ -18,7 +19,7 @@ told c = c .in-order .ensures ∙ rw (c .before .starting .ensures)
 
 returns : tie.Need-returns
 unfolding measureRefusal
-returns c = rw (sym (c .before .is-lanes .ensures) ∙ not-true _ (c .if1 .taken))
+returns c = rw (denied (c .before .is-lanes .ensures) (c .if1 .taken))
 
 returns-2 : tie.Need-returns-2
 unfolding measureRefusal
@@ -28,13 +29,13 @@ returns-3 : tie.Need-returns-3
 unfolding measureRefusal
 returns-3 c =
     let e = c .before .before .before in
-    rw (good (e .before), le-ltb 4096 _ (e .if2 .left), sym (told (c .before)) ∙ not-true _ (c .if3 .taken))
+    rw (good (e .before), le-ltb 4096 _ (e .if2 .left), denied (told (c .before)) (c .if3 .taken))
 
 returns-4 : tie.Need-returns-4
 unfolding measureRefusal
 returns-4 c =
     let e = c .before .before .before in
-    rw (good (e .before), le-ltb 4096 _ (e .if2 .left), sym (told (c .before)) ∙ not-false _ (c .if3 .left))
+    rw (good (e .before), le-ltb 4096 _ (e .if2 .left), granted (told (c .before)) (c .if3 .left))
 
 pub measure-refusal-spec : {M : Type 1} → statement M
 measure-refusal-spec =

@@ -1,8 +1,8 @@
 -- A refusal is passed on with length 0 and nothing written; else the tested body is written out.
-use mathlib.Core.Path.{_≡_, refl, sym, _∙_}
+use mathlib.Core.Path.{_≡_, refl}
 use mathlib.Core.Bool.{true}
-use borrow.Author.Tests.{not-true, not-false}
 use lib.ListN.{length}
+use Rattle.answers.proofs.Guards.{denied, granted}
 use Rattle.answers.specs.Refusals.{accepted}
 use Rattle.answers.proofs.Answers.{refused, untouched, answered, overwritten}
 use Rattle.bodies.specs.Body.{blockCount}
@@ -14,7 +14,7 @@ use Rattle.lists.proofs.read.Statement.{statement}
 use Rattle.lists.proofs.read.Tie as tie
 
 yes-accepted : (c : tie.Else1) → accepted (c .before .before .read-refusal .result) ≡ true
-yes-accepted c = sym (c .before .is-accepted .ensures) ∙ not-false _ (c .if1 .left)
+yes-accepted c = granted (c .before .is-accepted .ensures) (c .if1 .left)
 
 able : (c : tie.Else1) → Readable (c .before .before .before .before .before .args .lanes) (c .before .before .before .before .before .args .mode) (c .before .before .before .before .before .args .count) (c .before .before .before .before .before .args .body .now) (length (c .before .before .before .before .before .args .values .now))
 able c = read-exactly _ _ _ _ _ .0 (rw (c .before .before .read-refusal .ensures) at (yes-accepted c))
@@ -23,7 +23,7 @@ returns : tie.Need-returns
 returns c =
     let t = c .before in
     let k = t .before .before .read-refusal .ensures in
-    let h = sym (t .before .is-accepted .ensures) ∙ not-true _ (t .if1 .taken) in
+    let h = denied (t .before .is-accepted .ensures) (t .if1 .taken) in
     let a = t .before .before .before .before .before .args in
     (refused k h (c .refused .ensures) _, untouched k h (listOf (a .lanes) (a .mode) (a .count) (a .body .now)) _)
 

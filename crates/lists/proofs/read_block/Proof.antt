@@ -1,10 +1,10 @@
 -- A refusal is passed on with length 0 and nothing written; else the tested block is written out.
-use mathlib.Core.Path.{_≡_, sym, _∙_, ap}
+use mathlib.Core.Path.{_≡_, _∙_, ap}
 use mathlib.Core.Bool.{true}
 use Prim.Native.Nat.{ℕ, min}
 use native.Mathlib.Omega.{arith}
-use borrow.Author.Tests.{not-true, not-false}
 use lib.ListN.{length}
+use Rattle.answers.proofs.Guards.{denied, granted}
 use Rattle.layout.specs.Layout.{blockSize}
 use Rattle.layout.proofs.LaneCounts.{lanes-of}
 use Rattle.answers.specs.Answers.{over}
@@ -18,7 +18,7 @@ use Rattle.lists.proofs.read_block.Statement.{statement}
 use Rattle.lists.proofs.read_block.Tie as tie
 
 yes-accepted : (c : tie.Else1) → accepted (c .before .before .read-block-refusal .result) ≡ true
-yes-accepted c = sym (c .before .is-accepted .ensures) ∙ not-false _ (c .if1 .left)
+yes-accepted c = granted (c .before .is-accepted .ensures) (c .if1 .left)
 
 able : (c : tie.Else1) → BlockReadable (c .before .before .before .before .before .args .lanes) (c .before .before .before .before .before .args .mode) (c .before .before .before .before .before .args .count) (c .before .before .before .before .before .args .bytes .now) (length (c .before .before .before .before .before .args .values .now))
 able c = read-block-exactly _ _ _ _ _ .0 (rw (c .before .before .read-block-refusal .ensures) at (yes-accepted c))
@@ -27,7 +27,7 @@ returns : tie.Need-returns
 returns c =
     let t = c .before in
     let k = t .before .before .read-block-refusal .ensures in
-    let h = sym (t .before .is-accepted .ensures) ∙ not-true _ (t .if1 .taken) in
+    let h = denied (t .before .is-accepted .ensures) (t .if1 .taken) in
     let a = t .before .before .before .before .before .args in
     (refused k h (c .refused .ensures) _, untouched k h (valuesAt (a .lanes) (a .mode) (min (blockSize (a .lanes)) (a .count)) (a .bytes .now)) _)
 

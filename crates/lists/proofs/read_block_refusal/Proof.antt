@@ -1,8 +1,9 @@
 -- Each test is the definition's, in its order.
-use mathlib.Core.Path.{_≡_, sym, _∙_, ap}
+use mathlib.Core.Path.{_≡_, _∙_, ap}
 use mathlib.Core.Bool.{true}
 use native.Mathlib.Omega.{arith}
-use borrow.Author.Tests.{lt-ltb, le-ltb, not-true, not-false}
+use borrow.Author.Tests.{lt-ltb, le-ltb}
+use Rattle.answers.proofs.Guards.{denied, granted}
 use Rattle.layout.specs.Layout.{isLanes}
 use Rattle.layout.proofs.LaneCounts.{lanes-of}
 use Rattle.bodies.specs.declared.Stop.{Stop}
@@ -12,10 +13,10 @@ use Rattle.lists.proofs.read_block_refusal.Statement.{statement}
 use Rattle.lists.proofs.read_block_refusal.Tie as tie
 
 returns : tie.Need-returns
-returns c = rw (sym (c .before .is-lanes .ensures) ∙ not-true _ (c .if1 .taken))
+returns c = rw (denied (c .before .is-lanes .ensures) (c .if1 .taken))
 
 good : (c : tie.Else1) → isLanes (c .before .before .before .args .lanes) ≡ true
-good c = sym (c .before .is-lanes .ensures) ∙ not-false _ (c .if1 .left)
+good c = granted (c .before .is-lanes .ensures) (c .if1 .left)
 
 mul-lesser : tie.Need-mul-lesser
 mul-lesser c = omega (arith, lanes-of _ (good c))

@@ -1,7 +1,8 @@
 -- Each test is the definition's, in its order.
-use mathlib.Core.Path.{_≡_, sym, _∙_, ap}
+use mathlib.Core.Path.{_≡_, _∙_, ap}
 use mathlib.Core.Bool.{true}
-use borrow.Author.Tests.{lt-ltb, le-ltb, not-true, not-false}
+use borrow.Author.Tests.{lt-ltb, le-ltb}
+use Rattle.answers.proofs.Guards.{denied, granted}
 use Rattle.layout.specs.Layout.{isLanes}
 use Rattle.modes.specs.declared.Mode.{Mode}
 use Rattle.bodies.specs.declared.Stop.{Stop}
@@ -13,10 +14,10 @@ use Rattle.lists.proofs.read_refusal.Statement.{statement}
 use Rattle.lists.proofs.read_refusal.Tie as tie
 
 good : (c : tie.Else1) → isLanes (c .before .before .before .args .lanes) ≡ true
-good c = sym (c .before .is-lanes .ensures) ∙ not-false _ (c .if1 .left)
+good c = granted (c .before .is-lanes .ensures) (c .if1 .left)
 
 returns : tie.Need-returns
-returns c = rw (sym (c .before .is-lanes .ensures) ∙ not-true _ (c .if1 .taken))
+returns c = rw (denied (c .before .is-lanes .ensures) (c .if1 .taken))
 
 returns-2 : tie.Need-returns-2
 returns-2 c = rw (good (c .before), lt-ltb 4096 _ (c .if2 .taken))

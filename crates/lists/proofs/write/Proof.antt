@@ -1,42 +1,63 @@
--- A refusal is passed on with length 0 and nothing written; else the body is written.
-use mathlib.Core.Path.{_≡_, sym, _∙_}
+-- What the values are refused for is passed on, and then the room is tested; else the body is written.
+use mathlib.Core.Path.{_≡_, refl, sym, _∙_, ap}
 use mathlib.Core.Bool.{true}
-use borrow.Author.Tests.{not-true, not-false}
+use borrow.Author.Tests.{leb-true, leb-false, lt-ltb}
 use lib.ListN.{length}
+use Rattle.answers.proofs.Guards.{denied, granted}
+use Rattle.answers.specs.declared.Refusal.the-variants.{NoRoom}
 use Rattle.answers.specs.Refusals.{accepted}
+use Rattle.answers.proofs.Refusals.{accepted-is, first-stops}
 use Rattle.answers.proofs.Answers.{refused, untouched, answered, overwritten}
 use Rattle.bodies.specs.Body.{bodyOf}
-use Rattle.lists.proofs.Accepts.{Writable, write-exactly}
+use Rattle.lists.specs.Calls.{measureRefusal, writeRefusal}
+use Rattle.lists.proofs.Accepts.{Writable, measure-exactly, write-exactly}
 use borrow.Author.Needs.{needs}
 use Rattle.lists.proofs.write.Statement.{statement}
 use Rattle.lists.proofs.write.Tie as tie
 
-yes-accepted : (c : tie.Else1) → accepted (c .before .before .write-refusal .result) ≡ true
-yes-accepted c = sym (c .before .is-accepted .ensures) ∙ not-false _ (c .if1 .left)
-
-able : (c : tie.Else1) → Writable (c .before .before .before .before .before .args .lanes) (c .before .before .before .before .before .args .mode) (c .before .before .before .before .before .args .values .now) (length (c .before .before .before .before .before .args .body .now))
-able c = write-exactly _ _ _ _ .0 (rw (c .before .before .write-refusal .ensures) at (yes-accepted c))
-
 returns : tie.Need-returns
 returns c =
     let t = c .before in
-    let k = t .before .before .write-refusal .ensures in
-    let h = sym (t .before .is-accepted .ensures) ∙ not-true _ (t .if1 .taken) in
-    let a = t .before .before .before .before .before .args in
-    (refused k h (c .refused .ensures) _, untouched k h (bodyOf (a .lanes) (a .mode) (a .values .now)) _)
+    let r = t .before .before in
+    let a = r .before .before .before .args in
+    let no = denied (t .before .is-accepted .ensures) (t .if1 .taken) in
+    let told : r .measure-refusal .result ≡ writeRefusal (a .lanes) (a .mode) (a .values .now) (length (a .body .now)) =
+    r .measure-refusal .ensures ∙ sym (first-stops (measureRefusal (a .lanes) (a .mode) (a .values .now)) _ (ap accepted (sym (r .measure-refusal .ensures)) ∙ no)) in
+    (refused told no (c .refused .ensures) _, untouched told no (bodyOf (a .lanes) (a .mode) (a .values .now)) _)
+
+-- nothing is wrong with the values
+good : (c : tie.Else1) → accepted (measureRefusal (c .before .before .before .before .before .args .lanes) (c .before .before .before .before .before .args .mode) (c .before .before .before .before .before .args .values .now)) ≡ true
+good c = ap accepted (sym (c .before .before .measure-refusal .ensures)) ∙ granted (c .before .is-accepted .ensures) (c .if1 .left)
+
+has-room-requires : tie.Need-has-room-requires
+has-room-requires c κs =
+    let p = measure-exactly _ _ _ .0 (good c) in
+    (p .lanes, p .few)
+
+returns-2 : tie.Need-returns-2
+returns-2 c =
+    let t = c .before in
+    let e = t .before .before in
+    let a = e .before .before .before .before .before .args in
+    let told : NoRoom ≡ writeRefusal (a .lanes) (a .mode) (a .values .now) (length (a .body .now)) =
+    rw (good e, lt-ltb (length (a .body .now)) _ (leb-false _ (length (a .body .now)) (denied (t .before .has-room .ensures) (t .if2 .taken)))) in
+    (refused told refl (c .refused2 .ensures) _, untouched told refl (bodyOf (a .lanes) (a .mode) (a .values .now)) _)
+
+able : (c : tie.Else2) → Writable (c .before .before .before .before .before .before .before .args .lanes) (c .before .before .before .before .before .before .before .args .mode) (c .before .before .before .before .before .before .before .args .values .now) (length (c .before .before .before .before .before .before .before .args .body .now))
+able c = record { list = measure-exactly _ _ _ .0 (good (c .before .before)); enough = leb-true _ _ (granted (c .before .has-room .ensures) (c .if2 .left)) }
 
 store-body-requires : tie.Need-store-body-requires
 store-body-requires c κs =
     let p = able (c .before) in
     (p .list .lanes, p .list .few, p .enough)
 
-returns-2 : tie.Need-returns-2
-returns-2 c =
+returns-3 : tie.Need-returns-3
+returns-3 c =
     let d = c .before .before .before in
     let e = d .before .before in
-    let k = e .before .before .write-refusal .ensures in
-    let a = e .before .before .before .before .before .args in
-    (answered k (yes-accepted e) (c .accepted .ensures) (d .store-body .ensures .0), overwritten k (yes-accepted e) (bodyOf (a .lanes) (a .mode) (a .values .now)) (a .body .now) (d .store-body .ensures .1))
+    let a = e .before .before .before .before .before .before .before .args in
+    let yes = accepted-is _ (write-exactly (a .lanes) (a .mode) (a .values .now) (length (a .body .now)) .1 (able e)) in
+    (answered (sym yes) refl (c .accepted .ensures) (d .store-body .ensures .0), overwritten (sym yes) refl (bodyOf (a .lanes) (a .mode) (a .values .now)) (a .body .now) (d .store-body .ensures .1))
 
 pub write-spec : {M : Type 1} → statement M
 write-spec =
@@ -46,7 +67,10 @@ write-spec =
     (search needs)
     (search needs)
     returns
+    has-room-requires
+    (search needs)
+    returns-2
     store-body-requires
     (search needs)
     (search needs)
-    returns-2)
+    returns-3)

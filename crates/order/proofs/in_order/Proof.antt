@@ -1,8 +1,8 @@
 -- Past the first i values all were in order.
-use mathlib.Core.Path.{sym, _∙_}
+use mathlib.Core.Path.{sym}
 use Prim.Native.Nat.{_-_}
-use borrow.Author.Tests.{not-true, not-false}
 use lib.ListN.{length, take}
+use Rattle.answers.proofs.Guards.{denied, granted}
 use Rattle.order.proofs.Going.{Going, going-none, going-on, out-of-order, all-in-order}
 use borrow.Author.Needs.{needs}
 use Rattle.order.proofs.in_order.Statement.{statement}
@@ -20,13 +20,13 @@ loop-holds c = going-none _
 returns : tie.Need-returns Inv-loop μ-loop
 returns c =
     let l = c .before .before .before .before in
-    sym (out-of-order (l .before .before .args .values .now) (l .loop .i) (l .loop .inv) (c .before .before .before .loop-test .taken) (sym (c .before .admits .ensures) ∙ not-true _ (c .if1 .taken)))
+    sym (out-of-order (l .before .before .args .values .now) (l .loop .i) (l .loop .inv) (c .before .before .before .loop-test .taken) (denied (c .before .admits .ensures) (c .if1 .taken)))
 
 loop-again : tie.Need-loop-again Inv-loop μ-loop
 loop-again c =
     let l = c .before .before .before .before .before in
     rw (c .after .ensures)
-    (going-on (l .before .before .args .values .now) (l .loop .i) (l .loop .inv) (c .before .before .before .before .loop-test .taken) (sym (c .before .before .admits .ensures) ∙ not-false _ (c .before .if1 .left)))
+    (going-on (l .before .before .args .values .now) (l .loop .i) (l .loop .inv) (c .before .before .before .before .loop-test .taken) (granted (c .before .before .admits .ensures) (c .before .if1 .left)))
 
 returns-2 : tie.Need-returns-2 Inv-loop μ-loop
 returns-2 c =

@@ -1,8 +1,7 @@
 -- Past the first i entries all their values were in order.
-use mathlib.Core.Path.{sym, _∙_}
 use Prim.Native.Nat.{_-_}
-use borrow.Author.Tests.{not-true, not-false}
 use lib.ListN.{length, take}
+use Rattle.answers.proofs.Guards.{denied, granted}
 use Rattle.order.specs.Order.{valuesOf}
 use Rattle.order.proofs.Going.{Going, going-none, walking-on, walk-ends, walk-through}
 use borrow.Author.Needs.{needs}
@@ -24,7 +23,7 @@ returns c =
     let v = c .before .before in
     let l = v .before .before .before in
     walk-ends (l .before .before .args .entries .now) (l .loop .i) (l .loop .inv) (v .before .before .loop-test .taken)
-    (rw (← v .next-value .ensures) (sym (c .before .admits .ensures) ∙ not-true _ (c .if1 .taken)))
+    (rw (← v .next-value .ensures) (denied (c .before .admits .ensures) (c .if1 .taken)))
 
 loop-again : tie.Need-loop-again Inv-loop μ-loop
 loop-again c =
@@ -32,7 +31,7 @@ loop-again c =
     let l = v .before .before .before in
     rw (c .after .ensures, v .next-value .ensures)
     (walking-on (l .before .before .args .entries .now) (l .loop .i) (l .loop .inv) (v .before .before .loop-test .taken)
-    (rw (← v .next-value .ensures) (sym (c .before .before .admits .ensures) ∙ not-false _ (c .before .if1 .left))))
+    (rw (← v .next-value .ensures) (granted (c .before .before .admits .ensures) (c .before .if1 .left))))
 
 returns-2 : tie.Need-returns-2 Inv-loop μ-loop
 returns-2 c =

@@ -1,26 +1,42 @@
--- What measuring refuses is the line, and the rest is writing.
-use mathlib.Core.Path.{sym, _∙_}
-use borrow.Author.Tests.{not-true, not-false}
-use Rattle.programs.proofs.Outcomes.{out-is, not-measured, measured}
+-- The file, or nothing where there is no room for it; what the values are refused for is the line.
+use mathlib.Core.Path.{_≡_, sym, _∙_, ap}
+use mathlib.Core.List.{List}
+use Prim.Native.Nat.{ℕ}
+use lib.ListN.{length}
+use Rattle.programs.specs.Programs.{refusedLine, outAnswer, outLeft}
+use Rattle.programs.proofs.Outcomes.{out-is, file-out, file-without-room, list-refused}
 use borrow.Author.Needs.{needs}
 use Rattle.programs.proofs.hand_out_file.Statement.{statement}
 use Rattle.programs.proofs.hand_out_file.Tie as tie
 
+-- where the file was written, and from what
+abbrev writing : tie.After-number → tie.After-write
+writing n = n .before .before .before
+
+abbrev start : tie.After-number → tie.Start
+start n = writing n .before .before .before .before
+
 returns : tie.Need-returns
 returns c =
-    let r = c .before .before in
-    let t = r .before .before in
-    let i = t .before in
-    let s = i .before .before .before .before in
-    out-is (not-measured (s .args .lanes) (s .args .mode) (s .args .values .now) _ (i .before .measure .ensures) (sym (i .is-accepted .ensures) ∙ not-true _ (t .if1 .taken))) (s .args .out .now) (r .refuse .ensures)
+    let n = c .before in
+    let s = start n in
+    file-out (s .args .lanes) (s .args .mode) (s .args .values .now) (s .args .out .now) (writing n .write .ensures) (sym (n .number .ensures) ∙ c .if1 .taken)
 
 returns-2 : tie.Need-returns-2
 returns-2 c =
-    let w = c .before .before in
-    let e = w .before .before in
-    let i = e .before in
-    let s = i .before .before .before .before in
-    measured (s .args .lanes) (s .args .mode) (s .args .values .now) _ (i .before .measure .ensures) (sym (i .is-accepted .ensures) ∙ not-false _ (e .if1 .left)) (s .args .out .now) (w .write .ensures)
+    let n = c .before .before in
+    let s = start n in
+    file-without-room (s .args .lanes) (s .args .mode) (s .args .values .now) (s .args .out .now) (writing n .write .ensures) (sym (n .number .ensures) ∙ c .if2 .taken)
+
+returns-3 : tie.Need-returns-3
+returns-3 c =
+    let f = c .before .before in
+    let e = f .before .before in
+    let n = e .before .before in
+    let s = start n in
+    let k = list-refused (s .args .lanes) (s .args .mode) (s .args .values .now) (s .args .out .now) (writing n .write .ensures)
+    (λ z. e .before .if1 .left (n .number .ensures ∙ z)) (λ z. e .if2 .left (n .number .ensures ∙ z)) in
+    out-is (k .0) (s .args .out .now) (rw (k .1) at (f .refuse .ensures))
 
 pub hand-out-file-spec : {M : Type 1} → statement M
 hand-out-file-spec =
@@ -29,8 +45,9 @@ hand-out-file-spec =
     (search needs)
     (search needs)
     (search needs)
-    (search needs)
     returns
     (search needs)
+    returns-2
     (search needs)
-    returns-2)
+    (search needs)
+    returns-3)

@@ -3,12 +3,12 @@ use mathlib.Core.Path.{_≡_, refl, sym, _∙_, ap}
 use mathlib.Core.Bool.{true}
 use Prim.Native.Nat.{_≤_}
 use native.Mathlib.Omega.{arith}
-use borrow.Author.Tests.{not-true, not-false}
 use lib.ListN.{length, take, replicate}
 use lib.Seq.{length-take-le}
+use Rattle.answers.proofs.Guards.{denied, granted}
 use Rattle.answers.specs.declared.Answer.{Answer}
 use Rattle.answers.specs.Refusals.{accepted}
-use Rattle.order.specs.Order.{most}
+use Rattle.bodies.specs.List.{most}
 use Rattle.files.specs.Calls.{listIn, readRefusalOf}
 use Rattle.programs.specs.Lines.{valueLines}
 use Rattle.programs.proofs.Outcomes.{out-is, file-too-long, file-refused, file-accepted, list-few, list-told}
@@ -31,7 +31,7 @@ returns-2 c =
     let d = i .before .before in
     let e = d .before .before in
     let s = e .before .before .before in
-    out-is (file-refused (s .args .file .now) (e .if1 .left) _ (ap (λ (a : Answer). a .refusal) (d .read .ensures .0)) (sym (i .is-accepted .ensures) ∙ not-true _ (t .if2 .taken))) (s .args .out .now) (r .refuse2 .ensures)
+    out-is (file-refused (s .args .file .now) (e .if1 .left) _ (ap (λ (a : Answer). a .refusal) (d .read .ensures .0)) (denied (i .is-accepted .ensures) (t .if2 .taken))) (s .args .out .now) (r .refuse2 .ensures)
 
 abbrev start : tie.Else2 → tie.Start
 start c = c .before .before .before .before .before .before .before .before
@@ -43,7 +43,7 @@ was c = c .before .before .before
 good : (c : tie.Else2) → accepted (readRefusalOf (start c .args .file .now) most) ≡ true
 good c =
     let i = c .before in
-    ap (λ (a : Answer). accepted (a .refusal)) (sym (i .before .before .read .ensures .0)) ∙ sym (i .is-accepted .ensures) ∙ not-false _ (c .if2 .left)
+    ap (λ (a : Answer). accepted (a .refusal)) (sym (i .before .before .read .ensures .0)) ∙ granted (i .is-accepted .ensures) (c .if2 .left)
 
 told : (c : tie.Else2) → (was c .read .result .length ≡ length (listIn (start c .args .file .now))) × (take (was c .read .result .length) (was c .read .last .1 .0) ≡ listIn (start c .args .file .now))
 told c =

@@ -3,9 +3,9 @@ use mathlib.Core.Path.{_≡_, sym, _∙_, ap}
 use mathlib.Core.Bool.{true}
 use Prim.Native.Nat.{_≤_}
 use native.Mathlib.Omega.{arith}
-use borrow.Author.Tests.{not-true, not-false}
 use lib.ListN.{length, take, replicate}
 use lib.Seq.{length-take-le}
+use Rattle.answers.proofs.Guards.{denied, granted}
 use Rattle.answers.specs.Refusals.{accepted}
 use Rattle.lists.specs.Calls.{measureRefusal}
 use Rattle.files.specs.declared.Packing.{Packing}
@@ -38,16 +38,16 @@ returns-2 c =
     let g = i .before in
     let e = g .before in
     let s = e .before .before .before in
-    out-is (ap (λ (p : Packing). refusedLine (p .refusal)) (g .settings .ensures) ∙ no-settings (s .args .text .now) (e .if1 .left) (sym (said i) ∙ not-true _ (t .if2 .taken))) (s .args .out .now) (r .refuse2 .ensures)
+    out-is (ap (λ (p : Packing). refusedLine (p .refusal)) (g .settings .ensures) ∙ no-settings (s .args .text .now) (e .if1 .left) (denied (said i) (t .if2 .taken))) (s .args .out .now) (r .refuse2 .ensures)
 
 abbrev start : tie.Else2 → tie.Start
 start c = c .before .before .before .before .before .before
 
 set : (c : tie.Else2) → isSettings (start c .args .text .now) ≡ true
-set c = sym (said (c .before)) ∙ not-false _ (c .if2 .left)
+set c = granted (said (c .before)) (c .if2 .left)
 
 within : (c : tie.Else2) → c .before .before .settings .result .length ≤ length (start c .args .text .now)
-within c = settings-within (start c .args .text .now) _ (c .before .before .settings .ensures) (sym (c .before .is-accepted .ensures) ∙ not-false _ (c .if2 .left))
+within c = settings-within (start c .args .text .now) _ (c .before .before .settings .ensures) (granted (c .before .is-accepted .ensures) (c .if2 .left))
 
 sub-read-values : tie.Need-sub-read-values
 sub-read-values c = within c
@@ -69,7 +69,7 @@ returns-3 c =
     let e = v .before .before .before in
     let f = e .before .before .before in
     let s = f .before .before .before in
-    out-is (not-lines (s .args .text .now) (f .if1 .left) (set e) (sym (told v .sound) ∙ not-true _ (t .if3 .taken))) (s .args .out .now) (r .refuse3 .ensures)
+    out-is (not-lines (s .args .text .now) (f .if1 .left) (set e) (denied (told v .sound) (t .if3 .taken))) (s .args .out .now) (r .refuse3 .ensures)
 
 returns-4 : tie.Need-returns-4
 returns-4 c =
@@ -80,7 +80,7 @@ returns-4 c =
     let e = v .before .before .before in
     let f = e .before .before .before in
     let s = f .before .before .before in
-    out-is (too-many (s .args .text .now) (f .if1 .left) (set e) (sym (told v .sound) ∙ not-false _ (n .if3 .left)) (rw (← told v .count) (t .if4 .taken))) (s .args .out .now) (r .refuse4 .ensures)
+    out-is (too-many (s .args .text .now) (f .if1 .left) (set e) (granted (told v .sound) (n .if3 .left)) (rw (← told v .count) (t .if4 .taken))) (s .args .out .now) (r .refuse4 .ensures)
 
 values-within : (c : tie.Else4) → c .before .before .before .before .read-values .result .count ≤ length (c .before .before .before .before .read-values .last .1 .0)
 values-within c = omega (arith, c .if4 .left, c .before .before .before .before .read-values .kept)
@@ -105,7 +105,7 @@ returns-5 c =
     let p = e .before .before .settings .ensures in
     let same-list : output (measureRefusal (e .before .before .settings .result .lanes) (e .before .before .settings .result .mode) (take (v .read-values .result .count) (v .read-values .last .1 .0))) (fileFor (e .before .before .settings .result .lanes) (e .before .before .settings .result .mode) (take (v .read-values .result .count) (v .read-values .last .1 .0)))
     ≡ output (measureRefusal (settingsIn text .lanes) (settingsIn text .mode) (valuesIn text)) (fileFor (settingsIn text .lanes) (settingsIn text .mode) (valuesIn text)) = rw (p, vs) in
-    out-is (same-list ∙ list-out text (f .if1 .left) (set e) (sym (told v .sound) ∙ not-false _ (n .if3 .left))) (s .args .out .now) (h .hand-out-file .ensures)
+    out-is (same-list ∙ list-out text (f .if1 .left) (set e) (granted (told v .sound) (n .if3 .left))) (s .args .out .now) (h .hand-out-file .ensures)
 
 pub text-to-list-spec : {M : Type 1} → statement M
 text-to-list-spec =

@@ -1,12 +1,12 @@
 -- The name, and behind it the number's line, which is written into a place of its own and held against the bytes.
 use mathlib.Core.Path.{_≡_, refl, sym, _∙_, ap}
 use mathlib.Core.Bool.{true}
-use mathlib.Core.List.{List, []}
-use Prim.Native.Nat.{ℕ, _≤_}
+use mathlib.Core.List.{[]}
+use Prim.Native.Nat.{_≤_}
 use native.Mathlib.Omega.{arith}
-use borrow.Author.Tests.{not-true, not-false}
 use lib.ListN.{length, take, drop, replicate, length-drop}
 use lib.Seq.{length-take-le}
+use Rattle.answers.proofs.Guards.{denied, granted}
 use Rattle.answers.specs.Answers.{over}
 use Rattle.answers.proofs.Parts.{part-is}
 use Rattle.answers.proofs.Fronts.{take-over}
@@ -21,14 +21,14 @@ use Rattle.text.proofs.number_line.Tie as tie
 returns : tie.Need-returns
 returns c =
     let s = c .before .before .before .before in
-    no-name (s .args .name .now) (s .args .bytes .now) _ refl (sym (c .before .begins .ensures) ∙ not-true _ (c .if1 .taken))
+    no-name (s .args .name .now) (s .args .bytes .now) _ refl (denied (c .before .begins .ensures) (c .if1 .taken))
 
 -- behind the name
 abbrev start : tie.Else1 → tie.Start
 start e = e .before .before .before .before
 
 named : (e : tie.Else1) → begins (start e .args .name .now) (start e .args .bytes .now) ≡ true
-named e = sym (e .before .begins .ensures) ∙ not-false _ (e .if1 .left)
+named e = granted (e .before .begins .ensures) (e .if1 .left)
 
 within : (e : tie.Else1) → length (start e .args .name .now) ≤ length (start e .args .bytes .now)
 within e = begins-within (start e .args .name .now) (start e .args .bytes .now) (named e)
@@ -83,21 +83,21 @@ returns-2 : tie.Need-returns-2
 returns-2 c =
     let n = read (put (c .before)) in
     let s = start (behind n) in
-    no-number (s .args .name .now) (s .args .bytes .now) _ (valued n) (named (behind n)) (sym (told (c .before)) ∙ not-true _ (c .if2 .taken))
+    no-number (s .args .name .now) (s .args .bytes .now) _ (valued n) (named (behind n)) (denied (told (c .before)) (c .if2 .taken))
 
 add-t11 : tie.Need-add-t11
 add-t11 c =
     let p = put (c .before) in
     let s = start (behind (read p)) in
     let rest = drop (length (s .args .name .now)) (s .args .bytes .now) in
-    omega (arith, written p .0, within (behind (read p)), length-drop (length (s .args .name .now)) (s .args .bytes .now), begins-within (numbered [] (read p .number .result)) rest (sym (told (c .before)) ∙ not-false _ (c .if2 .left)))
+    omega (arith, written p .0, within (behind (read p)), length-drop (length (s .args .name .now)) (s .args .bytes .now), begins-within (numbered [] (read p .number .result)) rest (granted (told (c .before)) (c .if2 .left)))
 
 returns-3 : tie.Need-returns-3
 returns-3 c =
     let p = put (c .before) in
     let n = read p in
     let s = start (behind n) in
-    rw (written p .0) (both (s .args .name .now) (s .args .bytes .now) _ (valued n) (named (behind n)) (sym (told (c .before)) ∙ not-false _ (c .if2 .left)))
+    rw (written p .0) (both (s .args .name .now) (s .args .bytes .now) _ (valued n) (named (behind n)) (granted (told (c .before)) (c .if2 .left)))
 
 pub number-line-spec : {M : Type 1} → statement M
 number-line-spec =

@@ -26,7 +26,7 @@ returns-2 c =
 returns-3 : tie.Need-returns-3 Inv-loop μ-loop
 returns-3 c =
     let e = c .before .before .before in
-    reading-high (e .before .before .loop .inv) (e .before .loop-test .taken) (e .if1 .left) (c .if3 .taken)
+    reading-high (e .before .before .loop .inv) (e .before .loop-test .taken) (e .if1 .left) (omega (arith, c .if3 .taken))
 
 mul-value : tie.Need-mul-value Inv-loop μ-loop
 mul-value c = omega (arith, value-small (c .before .before .before .before .before .loop .inv))

@@ -1,11 +1,10 @@
 -- The count line, the bytes line and the empty line, in this order.
-use mathlib.Core.Path.{_≡_, sym, _∙_, ap}
-use mathlib.Core.Bool.{true}
+use mathlib.Core.Path.{_≡_, _∙_, ap}
 use mathlib.Core.List.{List, [], _∷_}
 use Prim.Native.Nat.{ℕ, _+_, _≤_}
 use native.Mathlib.Omega.{arith}
-use borrow.Author.Tests.{not-true, not-false}
 use lib.ListN.{length, drop}
+use Rattle.answers.proofs.Guards.{denied, granted}
 use Rattle.answers.proofs.Parts.{part-is}
 use Rattle.text.specs.Text.{begins}
 use Rattle.files.proofs.Tests.{count-within, no-count, bytes-within, no-bytes, no-end, sizes-are, end-within}
@@ -76,21 +75,21 @@ returns-3 c =
     let e = past (c .before) in
     let n = second e in
     let f = sized n in
-    no-end (bytes f) _ (counted f .number-line .ensures) (f .if1 .left) _ (n .number-line2 .ensures) (e .if2 .left) (sym (told (c .before)) ∙ not-true _ (c .if3 .taken))
+    no-end (bytes f) _ (counted f .number-line .ensures) (f .if1 .left) _ (n .number-line2 .ensures) (e .if2 .left) (denied (told (c .before)) (c .if3 .taken))
 
 add-t16 : tie.Need-add-t16
 add-t16 c =
     let e = past (c .before) in
     let n = second e in
     let f = sized n in
-    omega (arith, end-within (bytes f) _ (counted f .number-line .ensures) (f .if1 .left) _ (n .number-line2 .ensures) (e .if2 .left) (sym (told (c .before)) ∙ not-false _ (c .if3 .left)))
+    omega (arith, end-within (bytes f) _ (counted f .number-line .ensures) (f .if1 .left) _ (n .number-line2 .ensures) (e .if2 .left) (granted (told (c .before)) (c .if3 .left)))
 
 returns-4 : tie.Need-returns-4
 returns-4 c =
     let e = past (c .before) in
     let n = second e in
     let f = sized n in
-    sizes-are (bytes f) _ (counted f .number-line .ensures) (f .if1 .left) _ (n .number-line2 .ensures) (e .if2 .left) (sym (told (c .before)) ∙ not-false _ (c .if3 .left))
+    sizes-are (bytes f) _ (counted f .number-line .ensures) (f .if1 .left) _ (n .number-line2 .ensures) (e .if2 .left) (granted (told (c .before)) (c .if3 .left))
 
 pub size-lines-spec : {M : Type 1} → statement M
 size-lines-spec =

@@ -28,7 +28,7 @@ returns-2 c =
     let f = p .before .before .before .before .before .before in
     let s = f .before .before in
     let q = ap (λ (i : Initial). line "first=" (initialText i) []) (sym (p .before .before .before .before .start .given .1) ∙ f .first-field .ensures) in
-    (p .number-line .ensures .0 ∙ ap length q, p .number-line .ensures .1 ∙ ap (λ (t : List ℕ). over t (s .args .out .now)) q)
+    (p .put-number .ensures .0 ∙ ap length q, p .put-number .ensures .1 ∙ ap (λ (t : List ℕ). over t (s .args .out .now)) q)
 
 pub put-first-line-spec : {M : Type 1} → statement M
 put-first-line-spec =

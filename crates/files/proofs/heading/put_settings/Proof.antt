@@ -9,6 +9,7 @@ use Rattle.answers.specs.Answers.{over}
 use Rattle.answers.proofs.Parts.{part-length}
 use Rattle.text.specs.Text.{word, decimal, line}
 use Rattle.files.specs.Header.{modeWord, firstText, settings}
+use Rattle.files.specs.kernel.Lengths.{longestNumberLine, longestModeLine}
 use Rattle.files.proofs.Lines.{mode-line-short, first-line-short, settings-are, one-length, two-length, Three, three}
 use Rattle.text.proofs.Lines.{number-line-short}
 use borrow.Author.Needs.{needs}
@@ -16,10 +17,10 @@ use Rattle.files.proofs.heading.put_settings.Statement.{statement}
 use Rattle.files.proofs.heading.put_settings.Tie as tie
 
 -- from the place behind a line to the place behind the one before
-abbrev start : tie.After-number-line → tie.Start
+abbrev start : tie.After-put-number → tie.Start
 start n = n .before .before .before .before
 
-abbrev first : tie.After-put-mode-line → tie.After-number-line
+abbrev first : tie.After-put-mode-line → tie.After-put-number
 first m = m .before .before .before .before
 
 abbrev second : tie.After-put-first-line → tie.After-put-mode-line
@@ -36,15 +37,15 @@ abbrev line₃ : tie.Start → List ℕ
 line₃ s = line "first=" (firstText (s .args .mode)) []
 
 -- where the first ends, and the second
-abbrev end₁ : tie.After-number-line → ℕ
-end₁ n = n .number-line .result
+abbrev end₁ : tie.After-put-number → ℕ
+end₁ n = n .put-number .result
 
 abbrev end₂ : tie.After-put-mode-line → ℕ
 end₂ m = end₁ (first m) + m .put-mode-line .result
 
 -- the output with one of them, with two, and with three
-abbrev out₁ : tie.After-number-line → List ℕ
-out₁ n = n .number-line .last .1 .1 .0
+abbrev out₁ : tie.After-put-number → List ℕ
+out₁ n = n .put-number .last .1 .1 .0
 
 abbrev out₂ : tie.After-put-mode-line → List ℕ
 out₂ m = putMid (end₁ (first m)) (length (out₁ (first m)) - end₁ (first m)) (out₁ (first m)) (m .put-mode-line .last .1 .0)
@@ -56,19 +57,19 @@ out₃ f = putMid (end₂ (second f)) (length (out₂ (second f)) - end₂ (seco
 room : (s : tie.Start) → length (line₁ s) + length (line₂ s) + length (line₃ s) ≤ length (s .args .out .now)
 room s = omega (arith, s .pre, number-line-short (word "lanes=") (s .args .lanes), mode-line-short (s .args .mode), first-line-short (s .args .mode))
 
-number-line-requires : tie.Need-number-line-requires
-number-line-requires c κs = omega (arith, c .before .before .before .pre)
+put-number-requires : tie.Need-put-number-requires
+put-number-requires c κs = omega (arith, c .before .before .before .pre)
 
 -- behind the first
-short : (n : tie.After-number-line) → end₁ n ≤ 17
-short n = omega (arith, n .number-line .ensures .0, number-line-short (word "lanes=") (start n .args .lanes))
+short : (n : tie.After-put-number) → end₁ n ≤ longestNumberLine
+short n = omega (arith, n .put-number .ensures .0, number-line-short (word "lanes=") (start n .args .lanes))
 
-kept : (n : tie.After-number-line) → length (out₁ n) ≡ length (start n .args .out .now)
+kept : (n : tie.After-put-number) → length (out₁ n) ≡ length (start n .args .out .now)
 kept n =
     let s = start n in
-    one-length (line₁ s) (line₂ s) (line₃ s) (s .args .out .now) (out₁ n) _ (room s) (n .number-line .ensures .0) (n .number-line .ensures .1)
+    one-length (line₁ s) (line₂ s) (line₃ s) (s .args .out .now) (out₁ n) _ (room s) (n .put-number .ensures .0) (n .put-number .ensures .1)
 
-within : (n : tie.After-number-line) → end₁ n ≤ length (out₁ n)
+within : (n : tie.After-put-number) → end₁ n ≤ length (out₁ n)
 within n = omega (arith, short n, kept n, start n .pre)
 
 sub-put-mode-line : tie.Need-sub-put-mode-line
@@ -83,14 +84,14 @@ put-mode-line-requires c κs =
     omega (arith, short n, kept n, start n .pre, part-length (end₁ n) (out₁ n))
 
 -- behind the second
-short′ : (m : tie.After-put-mode-line) → end₂ m ≤ 29
+short′ : (m : tie.After-put-mode-line) → end₂ m ≤ longestNumberLine + longestModeLine
 short′ m = omega (arith, short (first m), m .put-mode-line .ensures .0, mode-line-short (start (first m) .args .mode))
 
 kept′ : (m : tie.After-put-mode-line) → length (out₂ m) ≡ length (start (first m) .args .out .now)
 kept′ m =
     let n = first m in
     let s = start n in
-    two-length (line₁ s) (line₂ s) (line₃ s) (s .args .out .now) (out₁ n) _ (room s) (n .number-line .ensures .0) (n .number-line .ensures .1)
+    two-length (line₁ s) (line₂ s) (line₃ s) (s .args .out .now) (out₁ n) _ (room s) (n .put-number .ensures .0) (n .put-number .ensures .1)
     _ (m .put-mode-line .last .1 .0) (m .put-mode-line .ensures .0) (m .put-mode-line .ensures .1)
 
 within′ : (m : tie.After-put-mode-line) → end₂ m ≤ length (out₂ m)
@@ -116,7 +117,7 @@ there f =
     let m = second f in
     let n = first m in
     let s = start n in
-    three (line₁ s) (line₂ s) (line₃ s) (s .args .out .now) (out₁ n) _ (room s) (n .number-line .ensures .0) (n .number-line .ensures .1)
+    three (line₁ s) (line₂ s) (line₃ s) (s .args .out .now) (out₁ n) _ (room s) (n .put-number .ensures .0) (n .put-number .ensures .1)
     _ (m .put-mode-line .last .1 .0) (m .put-mode-line .ensures .0) (m .put-mode-line .ensures .1) _ (f .put-first-line .last .1 .0) (f .put-first-line .ensures .0) (f .put-first-line .ensures .1)
 
 add-result : tie.Need-add-result
@@ -138,7 +139,7 @@ put-settings-spec =
     tie.close
     (tie.spec
     (search needs)
-    number-line-requires
+    put-number-requires
     sub-put-mode-line
     part-put-mode-line-start
     (search needs)

@@ -1,6 +1,7 @@
 -- Filling and then the least width, as the definition has them.
 use mathlib.Core.Path.{sym, _∙_}
-use borrow.Author.Tests.{eq-eqb, ne-eqb, not-true, not-false}
+use borrow.Author.Tests.{eq-eqb, ne-eqb}
+use Rattle.answers.proofs.Guards.{denied, granted}
 use Rattle.layout.specs.Layout.{at, blockSize}
 use Rattle.layout.specs.Width.{leastWidth}
 use Rattle.bodies.specs.Reading.{entriesRefusal}
@@ -14,7 +15,7 @@ returns : tie.Need-returns
 unfolding entriesRefusal
 returns c =
     let s = c .before .before .before .before in
-    rw (sym (fill-part (s .args .lanes) (s .args .count) (s .args .entries .now) (s .pre .2)) ∙ sym (c .before .zeros .ensures) ∙ not-true _ (c .if1 .taken))
+    rw (sym (fill-part (s .args .lanes) (s .args .count) (s .args .entries .now) (s .pre .2)) ∙ denied (c .before .zeros .ensures) (c .if1 .taken))
 
 returns-2 : tie.Need-returns-2
 unfolding entriesRefusal
@@ -22,7 +23,7 @@ returns-2 c =
     let e = c .before .before .before in
     let s = e .before .before .before .before in
     rw (
-      sym (fill-part (s .args .lanes) (s .args .count) (s .args .entries .now) (s .pre .2)) ∙ sym (e .before .zeros .ensures) ∙ not-false _ (e .if1 .left),
+      sym (fill-part (s .args .lanes) (s .args .count) (s .args .entries .now) (s .pre .2)) ∙ granted (e .before .zeros .ensures) (e .if1 .left),
       ne-eqb (s .args .width) (leastWidth (at (s .args .entries .now)) (blockSize (s .args .lanes))) (λ q. c .if2 .taken (q ∙ sym (width-is _ (s .pre .0) (s .args .entries .now) (s .pre .2) (c .before .before .num-bits .ensures)))),
     )
 
@@ -32,7 +33,7 @@ returns-3 c =
     let e = c .before .before .before in
     let s = e .before .before .before .before in
     rw (
-      sym (fill-part (s .args .lanes) (s .args .count) (s .args .entries .now) (s .pre .2)) ∙ sym (e .before .zeros .ensures) ∙ not-false _ (e .if1 .left),
+      sym (fill-part (s .args .lanes) (s .args .count) (s .args .entries .now) (s .pre .2)) ∙ granted (e .before .zeros .ensures) (e .if1 .left),
       eq-eqb (s .args .width) (leastWidth (at (s .args .entries .now)) (blockSize (s .args .lanes))) (c .if2 .left ∙ width-is _ (s .pre .0) (s .args .entries .now) (s .pre .2) (c .before .before .num-bits .ensures)),
     )
 

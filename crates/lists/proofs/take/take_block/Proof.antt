@@ -4,6 +4,7 @@ use mathlib.Core.Bool.{true}
 use native.Mathlib.Omega.{arith}
 use borrow.Author.Tests.{not-true, not-false}
 use lib.Seq.{length-take-le}
+use Rattle.answers.proofs.Guards.{denied, granted}
 use Rattle.answers.specs.Refusals.{accepted}
 use Rattle.layout.proofs.LaneCounts.{lanes-of}
 use Rattle.bodies.specs.Reading.{frameRefusal}
@@ -20,11 +21,11 @@ frame-refusal-requires c κs = c .before .pre
 returns : tie.Need-returns
 returns c =
     let t = c .before in
-    no-frame _ _ _ _ (c .nothing .ensures) (t .before .before .frame-refusal .ensures) (sym (t .before .is-accepted .ensures) ∙ not-true _ (t .if1 .taken))
+    no-frame _ _ _ _ (c .nothing .ensures) (t .before .before .frame-refusal .ensures) (denied (t .before .is-accepted .ensures) (t .if1 .taken))
 
 -- the frame is there
 there : (e : tie.Else1) → accepted (frameRefusal (e .before .before .before .before .args .lanes) (e .before .before .before .before .args .bytes .now)) ≡ true
-there e = ap accepted (sym (e .before .before .frame-refusal .ensures)) ∙ sym (e .before .is-accepted .ensures) ∙ not-false _ (e .if1 .left)
+there e = ap accepted (sym (e .before .before .frame-refusal .ensures)) ∙ granted (e .before .is-accepted .ensures) (e .if1 .left)
 
 mul-lesser : tie.Need-mul-lesser
 mul-lesser c = omega (arith, lanes-of _ (c .before .before .before .before .pre))
@@ -63,7 +64,7 @@ returns-2 c =
     let w = b .before in
     let l = w .before .before in
     bad-entries _ _ _ _ (l .lesser .ensures) (there (l .before)) (b .block-entries .result) (b .block-entries .ensures .1) _ (w .widen .ensures .0) (c .nothing2 .ensures) (r .entries-refusal .ensures)
-    (sym (t .before .is-accepted2 .ensures) ∙ not-true _ (t .if2 .taken))
+    (denied (t .before .is-accepted2 .ensures) (t .if2 .taken))
 
 array-share-prefix-block-2 : tie.Need-array-share-prefix-block-2
 array-share-prefix-block-2 c =
@@ -87,7 +88,7 @@ returns-3 c =
     let w = b .before in
     let l = w .before .before in
     bad-order _ _ _ _ (l .lesser .ensures) (there (l .before)) (b .block-entries .result) (b .block-entries .ensures .1) _ (w .widen .ensures .0) (r .entries-refusal .ensures)
-    (sym (a .before .is-accepted2 .ensures) ∙ not-false _ (a .if2 .left)) (y .walk .ensures) (c .nothing3 .ensures) (not-true _ (t .if3 .taken))
+    (granted (a .before .is-accepted2 .ensures) (a .if2 .left)) (y .walk .ensures) (c .nothing3 .ensures) (not-true _ (t .if3 .taken))
 
 block-length-requires : tie.Need-block-length-requires
 block-length-requires c κs =
@@ -111,7 +112,7 @@ returns-4 c =
     let w = b .before in
     let l = w .before .before in
     good-block _ _ _ _ (l .lesser .ensures) (there (l .before)) (b .block-entries .result) (b .block-entries .ensures .1) _ (w .widen .ensures .0) (r .entries-refusal .ensures)
-    (sym (a .before .is-accepted2 .ensures) ∙ not-false _ (a .if2 .left)) (y .walk .ensures) _ (c .block-length .ensures) (not-false _ (t .if3 .left))
+    (granted (a .before .is-accepted2 .ensures) (a .if2 .left)) (y .walk .ensures) _ (c .block-length .ensures) (not-false _ (t .if3 .left))
 
 pub take-block-spec : {M : Type 1} → statement M
 take-block-spec =

@@ -1,8 +1,8 @@
 -- What is left to take is what there was to take, but for what was taken.
-use mathlib.Core.Path.{_≡_, sym, _∙_}
+use mathlib.Core.Path.{_≡_}
 use mathlib.Core.Bool.{true}
 use native.Mathlib.Omega.{arith}
-use borrow.Author.Tests.{not-true, not-false}
+use Rattle.answers.proofs.Guards.{denied, granted}
 use Rattle.answers.specs.Refusals.{accepted}
 use Rattle.layout.proofs.LaneCounts.{lanes-of}
 use Rattle.lists.proofs.Takes.{Taking, taking-start, taking-end, stops-here, left-there, block-within, taking-more}
@@ -27,11 +27,11 @@ returns c =
     let b = c .before .before in
     let i = b .before .before in
     let l = i .before in
-    stops-here (l .loop .inv) (lanes-of _ (l .before .before .pre .0) .0) (i .loop-test .taken) (b .take-block .ensures) (sym (c .before .is-accepted .ensures) ∙ not-true _ (c .if1 .taken))
+    stops-here (l .loop .inv) (lanes-of _ (l .before .before .pre .0) .0) (i .loop-test .taken) (b .take-block .ensures) (denied (c .before .is-accepted .ensures) (c .if1 .taken))
 
 -- the block is accepted
 accepted-there : (c : tie.Else1 Inv-loop μ-loop) → accepted (c .before .before .take-block .result .refusal) ≡ true
-accepted-there c = sym (c .before .is-accepted .ensures) ∙ not-false _ (c .if1 .left)
+accepted-there c = granted (c .before .is-accepted .ensures) (c .if1 .left)
 
 add-blocks : tie.Need-add-blocks Inv-loop μ-loop
 add-blocks c =

@@ -1,0 +1,16 @@
+-- What is claimed of numbers as texts: "Numbers are decimal, at most 4,294,967,295, without leading zeros." (proofs/Claims, is-decimal)
+use mathlib.Core.Path.{_≡_}
+use mathlib.Core.List.{List, [], _∷_}
+use Prim.Native.Nat.{ℕ, _+_, _^_, _≤_, _<_}
+use lib.ListN.{getD}
+use Rattle.text.specs.Text.{decimal, valueFrom}
+
+pub record IsDecimal (n : ℕ) (text : List ℕ) : Type 0 where
+  -- the digits stand for n
+  pub value : valueFrom 0 text ≡ n
+  -- one digit below 10, and from 10 on a first digit that is not 0
+  pub one : n < 10 → text ≡ (48 + n) ∷ []
+  pub front : 10 ≤ n → (49 ≤ getD text 0 0) × (getD text 0 0 ≤ 57)
+
+abbrev pub Decimals : Type 0
+Decimals = (n : ℕ) → n < 2 ^ 32 → IsDecimal n (decimal n)

@@ -1,11 +1,13 @@
 #!/usr/bin/env python3
-"""What the program blocks_check must write, worked out from document 01 bit by bit.
+"""The cases that the program blocks_check is given, and what it must write, worked out from document 01 bit by bit.
 
+    python3 checks/blocks.py cases > crates/blocks_check/stdin
     python3 checks/blocks.py > crates/blocks_check/stdout
 
-The first part is the block calls as document 01 has them. The second builds the inputs that the
-program builds. The third goes through the cases in the program's order, a line for each.
+The first part is the block calls as document 01 has them. The second builds the inputs that the program builds. The third does with a
+case what the program does with it. The fourth is the table of cases.
 """
+import sys
 
 # ---- "Words", "Entries", "Bit layout", "Block calls" and "Numbers of refusal" of document 01 ----
 
@@ -162,11 +164,6 @@ def one_entry(mode, place, entry):
     return values_of(mode, [entry if k == place else 0 for k in range(VALUES)])
 
 
-def sequence(start, step):
-    """Values that go on by the same step, and wrap."""
-    return [(start + k * step) % BOUND for k in range(VALUES)]
-
-
 def checksum(buffer):
     total = 0
     for x in buffer:
@@ -198,67 +195,116 @@ def same(given, back):
     return sum(a == b for a, b in zip(given, back))
 
 
-# ---- The lines: a label, the lanes and the mode, and then what was given and what was answered ----
-
-
-def line(label, lanes, mode, *words):
-    first = [] if mode == PLAIN else [("first", "none" if mode == NONE else mode[1])]
-    words = [("lanes", lanes), ("mode", mode[0])] + first + list(words)
-    print(label, *(f"{name}={value}" for name, value in words))
+# ---- What the program does with a case ----
+#
+# A case is a line with a label and words. Behind them comes what was answered.
 
 
 def answer(name, refusal, answered, *_):
     return (name, f"{refusal},{answered}")
 
 
-def all_calls(label, lanes, mode, place, entry, values, data, n):
+def all_calls(lanes, mode, place, entry, values, bytes, width):
     """All four calls, between so many values and so many bytes."""
     given = one_entry(mode, place, entry)[:values]
-    packed = pack(lanes, mode, given, data, n)
-    unpacked = unpack(lanes, mode, noise(7)[:data], values, n)
-    line(label, lanes, mode, ("place", place), ("entry", entry), ("values", values), ("bytes", data), ("width", n),
-         answer("size", *size(lanes, n)), answer("pack", *packed), *bytes_words(packed[2]),
-         answer("unpack", *unpacked), *values_words(unpacked[2]), answer("least", *least(lanes, mode, given)))
+    packed = pack(lanes, mode, given, bytes, width)
+    unpacked = unpack(lanes, mode, noise(7)[:bytes], values, width)
+    return [answer("size", *size(lanes, width)), answer("pack", *packed), *bytes_words(packed[2]),
+            answer("unpack", *unpacked), *values_words(unpacked[2]), answer("least", *least(lanes, mode, given))]
 
 
-def there_and_back(label, lanes, mode, values, n, words):
-    """A block's payload, and how many of its values come back. `words` shows the payload."""
-    packed = pack(lanes, mode, values, BYTES, n)
-    unpacked = unpack(lanes, mode, packed[2], VALUES, n)
-    line(label, lanes, mode, answer("least", *least(lanes, mode, values)), ("width", n), answer("pack", *packed),
-         answer("unpack", *unpacked), ("back", same(values, unpacked[2])), *words(packed[2]))
+def given_values(values, given, step):
+    """So many values: those that are given, and then values that go on by a step."""
+    given = given[:values]
+    return given + [(given[-1] + k * step) % BOUND for k in range(1, values - len(given) + 1)]
 
 
-def hex_word(payload):
-    return [("payload", bytes(payload).hex())]
+def there_and_back(lanes, mode, width, values, given, step):
+    """A block's payload, and how many of its values come back."""
+    block = given_values(values, given, step)
+    packed = pack(lanes, mode, block, BYTES, width)
+    unpacked = unpack(lanes, mode, packed[2], VALUES, width)
+    words = [answer("least", *least(lanes, mode, block)), ("width", width), answer("pack", *packed), answer("unpack", *unpacked),
+             ("back", same(block, unpacked[2]))]
+    return words, packed[2]
 
 
-def bytes_not_zero(payload):
-    return [(f"byte{i}", f"{byte:02x}") for i, byte in enumerate(payload) if byte != 0]
+def back_payload(**words):
+    """With the payload in hex."""
+    words, payload = there_and_back(**words)
+    return words + [("payload", bytes(payload).hex())]
 
 
-def width_zero(label, lanes, mode):
+def back_bytes(**words):
+    """With the payload's bytes that are not 0."""
+    words, payload = there_and_back(**words)
+    return words + [(f"byte{i}", f"{byte:02x}") for i, byte in enumerate(payload) if byte != 0]
+
+
+def back_kept(given, step, **words):
+    """With what the whole output holds, and how the values go on."""
+    words, payload = there_and_back(given=given, step=step, **words)
+    return words + bytes_words(payload) + [("start", given[0]), ("step", step)]
+
+
+def width_zero(lanes, mode, width, values):
     """No bytes at width 0 are a block, and that block packs to no bytes."""
-    unpacked = unpack(lanes, mode, [], VALUES, 0)
-    values = unpacked[2]
-    packed = pack(lanes, mode, values, 0, 0)
-    line(label, lanes, mode, answer("unpack", *unpacked), *values_words(values), ("value0", values[0]),
-         ("value1", values[1]), ("value2", values[2]), ("last", values[-1]), answer("pack", *packed),
-         *bytes_words(packed[2]))
+    unpacked = unpack(lanes, mode, [], VALUES, width)
+    block = unpacked[2]
+    assert len(block) == values
+    packed = pack(lanes, mode, block, 0, width)
+    return [answer("unpack", *unpacked), *values_words(block), ("value0", block[0]), ("value1", block[1]), ("value2", block[2]),
+            ("last", block[-1]), answer("pack", *packed), *bytes_words(packed[2])]
 
 
-def trip(lanes, mode, n):
+def trip(lanes, mode, width, values):
     """Any bytes unpack to a block, and that block packs to the same bytes."""
-    data = noise(n)[:4 * lanes * n]
-    unpacked = unpack(lanes, mode, data, VALUES, n)
-    values = unpacked[2]
-    packed = pack(lanes, mode, values, BYTES, n)
-    line("trip", lanes, mode, ("width", n), answer("size", *size(lanes, n)), answer("unpack", *unpacked),
-         *values_words(values), answer("least", *least(lanes, mode, values)), answer("pack", *packed),
-         ("back", same(data, packed[2])))
+    data = noise(width)[:4 * lanes * width]
+    unpacked = unpack(lanes, mode, data, VALUES, width)
+    block = unpacked[2]
+    assert len(block) == values
+    packed = pack(lanes, mode, block, BYTES, width)
+    return [answer("size", *size(lanes, width)), answer("unpack", *unpacked), *values_words(block),
+            answer("least", *least(lanes, mode, block)), answer("pack", *packed), ("back", same(data, packed[2]))]
 
 
-# ---- The cases ----
+# The kinds of cases, and the words behind the mode that are not shown.
+KINDS = {
+    "calls": (all_calls, ()),
+    "payload": (back_payload, ("width", "values", "given", "step")),
+    "bytes": (back_bytes, ("width", "values", "given", "step")),
+    "kept": (back_kept, ("width", "values", "given", "step")),
+    "zero": (width_zero, ("width", "values")),
+    "trip": (trip, ("values",)),
+}
+
+
+def text_of(label, words):
+    """A label and words. The first letters of the words tell them apart."""
+    given = dict(words)
+    if "mode" in given:
+        mode = given.pop("mode")
+        given = {"lanes": given.pop("lanes"), "mode": mode[0], **({} if mode == PLAIN else {"first": "none" if mode == NONE else mode[1]}), **given}
+    if "given" in given:
+        given["given"] = ",".join(str(value) for value in given["given"])
+    return " ".join([label] + [f"{name}={value}" for name, value in given.items()])
+
+
+def line_of(kind, label, words):
+    """The line that the program writes."""
+    call, hidden = KINDS[kind]
+    shown = text_of(label, {name: value for name, value in words.items() if name not in hidden})
+    return " ".join([shown] + [f"{name}={value}" for name, value in call(**words)])
+
+
+def case_of(kind, label, words):
+    """The line that it is given."""
+    hidden = KINDS[kind][1]
+    shown = text_of(label, {name: value for name, value in words.items() if name not in hidden})
+    return shown + ": " + text_of(kind, {name: words[name] for name in hidden})
+
+
+# ---- The table of cases: a kind, a label, and words ----
 
 # The long examples in the comments of the Rust's src/lib.rs.
 EXAMPLE_1 = """
@@ -284,86 +330,102 @@ EXAMPLE_2 = """
 """
 
 
+def calls(label, lanes, mode, place, entry, values, bytes, width):
+    return "calls", label, dict(lanes=lanes, mode=mode, place=place, entry=entry, values=values, bytes=bytes, width=width)
+
+
+def back(kind, label, lanes, mode, width, given, step=0):
+    return kind, label, dict(lanes=lanes, mode=mode, width=width, values=32 * lanes, given=given, step=step)
+
+
+def zero(label, lanes, mode):
+    return "zero", label, dict(lanes=lanes, mode=mode, width=0, values=32 * lanes)
+
+
 def examples():
     for label, mode, text in (("example1", PLAIN, EXAMPLE_1), ("example2", sorted_from(0), EXAMPLE_2)):
-        there_and_back(label, 4, mode, [int(number) for number in text.split()], 4, hex_word)
+        yield back("payload", label, 4, mode, 4, [int(number) for number in text.split()])
 
 
 def starred():
     """The starred cases 1 to 5."""
-    there_and_back("case1", 1, PLAIN, [1, 2, 3] + [0] * 29, 2, bytes_not_zero)
-    there_and_back("case2", 4, PLAIN, one_entry(PLAIN, 1, 1)[:128], 1, bytes_not_zero)
-    there_and_back("case2", 4, PLAIN, one_entry(PLAIN, 4, 1)[:128], 1, bytes_not_zero)
-    there_and_back("case3", 1, PLAIN, one_entry(PLAIN, 1, 3)[:32], 31, bytes_not_zero)
-    there_and_back("case4", 8, PLAIN, one_entry(PLAIN, 9, 0x01020304)[:256], 32, bytes_not_zero)
+    yield back("bytes", "case1", 1, PLAIN, 2, [1, 2, 3, 0])
+    yield back("bytes", "case2", 4, PLAIN, 1, [0, 1, 0])
+    yield back("bytes", "case2", 4, PLAIN, 1, [0, 0, 0, 0, 1, 0])
+    yield back("bytes", "case3", 1, PLAIN, 31, [0, 3, 0])
+    yield back("bytes", "case4", 8, PLAIN, 32, [0] * 9 + [0x01020304, 0])
     for lanes in (1, 4, 8):
-        there_and_back("case5", lanes, NONE, sequence(0, 1)[:32 * lanes], 0, bytes_not_zero)
-        there_and_back("case5", lanes, sorted_from(5), sequence(3, 0)[:32 * lanes], 32, bytes_not_zero)
+        yield back("bytes", "case5", lanes, NONE, 0, [0], 1)
+        yield back("bytes", "case5", lanes, sorted_from(5), 32, [3])
 
 
 def other_lanes(mode, n):
     """Lanes that are not 1, 4 or 8."""
     for lanes, values in ((0, 0), (2, 64), (3, 96), (5, 160), (16, VALUES), (2**64 - 1, VALUES)):
-        all_calls("lanes", lanes, mode, 9, 3, values, BYTES, n)
+        yield calls("lanes", lanes, mode, 9, 3, values, BYTES, n)
 
 
 def faults(lanes, mode):
     """Every set of faults: 16 for the lanes, 8 for the width, 4 for the values, 2 for the bytes, 1 for an entry."""
     for s in range(32):
-        all_calls("fault", lanes + s // 16, mode, 9, 3 + s % 2, 32 * lanes - s // 4 % 2, 8 * lanes - s // 2 % 2,
-                  2 + 31 * (s // 8 % 2))
+        yield calls("fault", lanes + s // 16, mode, 9, 3 + s % 2, 32 * lanes - s // 4 % 2, 8 * lanes - s // 2 % 2, 2 + 31 * (s // 8 % 2))
 
 
 def limits(lanes, mode):
     block, exact = 32 * lanes, 8 * lanes
     for n in (0, 1, 31, 32, 33, LARGEST):
-        all_calls("width", lanes, mode, 9, 3, block, BYTES, n)
+        yield calls("width", lanes, mode, 9, 3, block, BYTES, n)
     for values in (0, block - 1, block, block + 1):
         for data in (0, exact - 1, exact, exact + 1):
-            all_calls("length", lanes, mode, 9, 3, values, data, 2)
+            yield calls("length", lanes, mode, 9, 3, values, data, 2)
     for values in (0, block - 1, block, block + 1):
-        all_calls("length", lanes, mode, 9, 0, values, 0, 0)
+        yield calls("length", lanes, mode, 9, 0, values, 0, 0)
     for entry, n in ((3, 2), (4, 2), (0, 0), (1, 0), (LARGEST, 32), (LARGEST, 33)):
-        all_calls("edge7", lanes, mode, 9, entry, block, BYTES, n)
+        yield calls("edge7", lanes, mode, 9, entry, block, BYTES, n)
     for n in (1, 17, 32):
         for place in (0, block // 2, block - 1):
-            all_calls("wide", lanes, mode, place, 2 ** (n - 1), block, BYTES, n)
-            all_calls("wide", lanes, mode, place, 2 ** (n - 1), block, BYTES, n - 1)
+            yield calls("wide", lanes, mode, place, 2 ** (n - 1), block, BYTES, n)
+            yield calls("wide", lanes, mode, place, 2 ** (n - 1), block, BYTES, n - 1)
 
 
 def wraps(lanes, mode):
-    """Values that rise past the largest, that fall, and that stay."""
+    """Values that rise past the largest, that fall, and that stay, at their least width."""
     for start, step in ((BOUND - 16, 3), (10, BOUND - 7), (5, 0)):
-        values = sequence(start, step)[:32 * lanes]
-        there_and_back("wrap", lanes, mode, values, least_width(entries_of(mode, values)),
-                       lambda payload: bytes_words(payload) + [("start", start), ("step", step)])
+        n = least_width(entries_of(mode, given_values(32 * lanes, [start], step)))
+        yield back("kept", "wrap", lanes, mode, n, [start], step)
 
 
 def all_cases(lanes):
-    width_zero("case6", lanes, strict_from(LARGEST - 1))
+    yield zero("case6", lanes, strict_from(LARGEST - 1))
     for mode in (PLAIN, sorted_from(5), NONE):
-        limits(lanes, mode)
+        yield from limits(lanes, mode)
     for mode in (PLAIN, sorted_from(5), sorted_from(LARGEST), NONE, strict_from(LARGEST), strict_from(7)):
-        width_zero("zero", lanes, mode)
+        yield zero("zero", lanes, mode)
     for mode in (sorted_from(5), sorted_from(LARGEST - 5), NONE, strict_from(LARGEST), strict_from(LARGEST - 1)):
-        wraps(lanes, mode)
+        yield from wraps(lanes, mode)
     for mode in (PLAIN, sorted_from(5), sorted_from(LARGEST), NONE, strict_from(7)):
         for n in range(33):
-            trip(lanes, mode, n)
+            yield "trip", "trip", dict(lanes=lanes, mode=mode, width=n, values=32 * lanes)
+
+
+def table():
+    yield from examples()
+    yield from starred()
+    yield from other_lanes(PLAIN, 2)
+    yield from other_lanes(PLAIN, LARGEST)
+    yield from other_lanes(sorted_from(5), 2)
+    yield from other_lanes(NONE, 2)
+    yield from faults(1, PLAIN)
+    yield from faults(4, sorted_from(5))
+    yield from faults(8, NONE)
+    for lanes in (1, 4, 8):
+        yield from all_cases(lanes)
 
 
 def main():
-    examples()
-    starred()
-    other_lanes(PLAIN, 2)
-    other_lanes(PLAIN, LARGEST)
-    other_lanes(sorted_from(5), 2)
-    other_lanes(NONE, 2)
-    faults(1, PLAIN)
-    faults(4, sorted_from(5))
-    faults(8, NONE)
-    for lanes in (1, 4, 8):
-        all_cases(lanes)
+    shown = case_of if sys.argv[1:] == ["cases"] else line_of
+    for case in table():
+        print(shown(*case))
 
 
 if __name__ == "__main__":

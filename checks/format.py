@@ -1,6 +1,6 @@
 #!/usr/bin/env python3
-"""Holds docs/FORMAT.md to document 01 as files.py has it: the file of section 1, and every case of section 12. And counts, for README, how many
-changes of one bit in the body of examples/sound.list give another sound file.
+"""Holds docs/FORMAT.md to document 01 as files.py has it: the file of section 1, and every case of section 12. And counts, for docs/WARD.md, how
+many changes of one bit in the body of examples/sound.list give another sound file.
 
     python3 checks/format.py [PROGRAM]
 
@@ -99,7 +99,7 @@ def main():
 
     check("the file of section 1", small_file() == file_of(1, ("plain", None), [1, 2, 3]) and header_of(small_file()) is not None)
     changes, read = one_bit()
-    check(f"README: of {changes} changes of one bit {read} are read", f"Of the {changes} ways to change one bit in the packed part of `examples/sound.list`,\n  {read} are read" in (TOP / "README.md").read_text())
+    check(f"docs/WARD.md: of {changes} changes of one bit {read} are read", f"Of the {changes} ways to change one bit in the packed part of `examples/sound.list`,\n  {read} are read" in (TOP / "docs" / "WARD.md").read_text())
     for name, file, said in cases():
         number, _, read = read_file(file, MOST)
         check(name, said == (number if number != 0 else read))

@@ -189,7 +189,8 @@ off by one and the same amount, one of the two has a stale first number.
 
 list_to_text writes the line refused=2.
 
-For the technician: a byte in the body was changed. No page of this file can be used.
+For the technician: 2 comes of a width byte, of lanes, of bytes erased, or of bytes lost, added or cut before the header was made. No page
+of this file can be used.
 """,
      [("list", with_body(bytes([33]) + BODY[1:]))]),
     ("refused_05_cut_short",
@@ -197,8 +198,8 @@ For the technician: a byte in the body was changed. No page of this file can be 
 
 list_to_text writes the line refused=5: the body ends before its last block does.
 
-For the technician: the header agrees with the body, so nothing was lost on the way. The body was cut before the header was made, or the
-count or a width byte was changed. A file that lost a byte on the way is refused_12_lost_byte.list.
+For the technician: the header agrees with the body, so nothing was lost on the way. 5 comes of a count too large, of a width byte, of
+lanes, or of bytes lost, added or cut before the header was made. A file that lost a byte on the way is refused_12_lost_byte.list.
 """,
      [("list", with_body(BODY[:-1]))]),
     ("refused_07_too_many",
@@ -207,7 +208,8 @@ at most 4,096 values.
 
 list_to_text writes the line refused=7 for the first, and text_to_list writes it for the second.
 
-For the technician: our writer does not write such a count, so the header was changed. A text of so many values has to be cut into two.
+For the technician: 7 comes of a count too large, which our writer does not write: the header was changed. A text of so many values has to
+be cut into two.
 """,
      [("list", with_body(BODY, count=4097)), ("text", text_of(LANES, PLAIN, [0] * 4097))]),
     ("refused_08_out_of_order",
@@ -216,8 +218,9 @@ before page {SWAPPED[16]}. In strict mode each page is greater than the one befo
 
 list_to_text writes the line refused=8 for the first, and text_to_list writes it for the second.
 
-For the technician: our writer does not write such a file. Its first number or its body was changed. In a text, look for the first page
-that is not greater than the one before.
+For the technician: our writer does not write such a file. 8 comes of first, of mode, of lanes, of a count too large, of a width byte, of
+a bit of a page, of bytes erased, or of bytes lost, added or cut before the header was made. In a text, look for the first page that is not
+greater than the one before.
 """,
      [("list", with_body(body_of(LANES, MODE, SWAPPED))), ("text", text_of(LANES, MODE, SWAPPED))]),
     ("refused_09_not_least",
@@ -225,8 +228,8 @@ that is not greater than the one before.
 
 list_to_text writes the line refused=9.
 
-For the technician: our writer stores each block with its least width. Another writer made this file, or it was changed. The pages may
-be right, but nothing says so.
+For the technician: our writer stores each block with its least width. 9 comes of another packer, of a width byte, of a bit of a page, of
+lanes, of bytes erased, or of bytes lost, added or cut before the header was made. The pages may be right, but nothing says so.
 """,
      [("list", with_body(wider_body()))]),
     ("refused_10_bad_fill",
@@ -235,7 +238,8 @@ be right, but nothing says so.
 
 list_to_text writes the line refused=10.
 
-For the technician: a bit behind the last page was changed, or the count was made smaller.
+For the technician: 10 comes of a bit of the filling, of a count too small, of a width byte, of lanes, of bytes erased, or of bytes lost,
+added or cut before the header was made.
 """,
      [("list", with_body(filled_body()))]),
     ("refused_11_left_over",
@@ -243,7 +247,8 @@ For the technician: a bit behind the last page was changed, or the count was mad
 
 list_to_text writes the line refused=11.
 
-For the technician: there is more in the body than the count asks for. The count may be too small.
+For the technician: there is more in the body than the count asks for. 11 comes of a count too small, of a width byte, of lanes, of bytes
+erased, or of bytes lost, added or cut before the header was made.
 """,
      [("list", with_body(BODY + b"\0"))]),
     ("refused_12_bad_header",
@@ -251,7 +256,8 @@ For the technician: there is more in the body than the count asks for. The count
 
 list_to_text writes the line refused=12.
 
-For the technician: fetch the file again, and move it as bytes and not as text.
+For the technician: 12 comes of a byte of the header, of bytes= that does not agree, or of bytes lost, added or cut on the way. Fetch the
+file again, and move it as bytes and not as text.
 """,
      [("list", crlf(SOUND[:-len(BODY)]) + BODY)]),
     ("refused_12_lost_byte",
@@ -260,7 +266,8 @@ For the technician: fetch the file again, and move it as bytes and not as text.
 
 list_to_text writes the line refused=12, since bytes is not the body's length. That comes before 5.
 
-For the technician: the file was cut on the way. Fetch it again.
+For the technician: 12 comes of a byte of the header, of bytes= that does not agree, or of bytes lost, added or cut on the way. Here the
+header looks right, so the file was cut on the way. Fetch it again.
 """,
      [("list", SOUND[:-1])]),
     ("refused_12_leading_zero",

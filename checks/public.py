@@ -13,7 +13,7 @@ import re
 import sys
 
 TOP = pathlib.Path(__file__).resolve().parent.parent
-NOT_DETERMINED = {("streams", "read_input"), ("streams", "write_output")}  # docs/PROMISES.md, "What no contract says"
+NOT_DETERMINED = {("streams", "read_input"), ("streams", "warn_of_arguments"), ("streams", "write_output")}  # docs/PROMISES.md, "What no contract says"
 PUBLIC = re.compile(r'^ *pub (?:extern "C" )?fn (\w+)\(', re.M)
 CONTRACT = re.compile(r"^use Rattle·(\w+)·proofs\.proofs\.(?:\w+\.)*(\w+)\.(Reads|Kinds) as (\S+)$", re.M)
 ASKS_NOTHING = re.compile(r"^(\S+)-asks-nothing : AsksNothing (\S+)-kinds\.ps \2\.Pre$", re.M)

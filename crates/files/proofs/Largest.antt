@@ -22,6 +22,7 @@ use Rattle.lists.specs.Calls.{measureRefusal}
 use Rattle.lists.proofs.Accepts.{Measurable, measure-exactly}
 use Rattle.files.specs.Header.{fileOf, headerText}
 use Rattle.files.specs.kernel.Lengths.{longestHeader}
+use Rattle.files.specs.Claims.{LargestFile}
 use Rattle.files.specs.Calls.{headerFor, fileFor}
 use Rattle.files.proofs.Filing.{file-splits}
 use Rattle.files.proofs.Lines.{header-short}
@@ -36,7 +37,7 @@ lanes-digit : (L : ℕ) → isLanes L ≡ true → L < 10
 lanes-digit = for-lanes (λ L. L < 10) (omega arith) (omega arith) (omega arith)
 
 -- room that every file fits: SISALSHED_LARGEST_FILE. (A plain list of 4,096 values of 4,294,967,295, with 1 lane, has just that many.)
-pub largest-file : (L : ℕ) (m : Mode) (vs : List ℕ) → accepted (measureRefusal L m vs) ≡ true → firstOf m < 2 ^ 32 → Below (2 ^ 32) vs → length (fileFor L m vs) ≤ 16566
+pub largest-file : LargestFile
 unfolding fileFor
 largest-file L m vs h small below = go m small (able .order) parts (header-short (headerFor L m vs))
   where

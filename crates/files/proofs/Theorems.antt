@@ -35,6 +35,7 @@ use Rattle.files.specs.declared.Packing.{Packing}
 use Rattle.files.specs.declared.heading.Header.{Header}
 use Rattle.files.specs.Header.{modeWord, initialText, firstText, settings, fileOf, readBack, headerText, IsHeader, Heads, Sets}
 use Rattle.files.specs.kernel.Finding.{settingsIn, headerFound}
+use Rattle.files.specs.Claims.{FoundExactly, OpensExactly, HeaderBack, HeaderAgain, SettingsExactly, SettingsBack}
 use Rattle.files.specs.Opening.{isSettings, isHeaded, headerIn, bodyIn, isFile, headerRefusal, headerAnswer, openAnswer}
 use Rattle.files.specs.Calls.{listIn, readRefusalOf, readAnswerOf, readOutputOf, headerFor, fileFor, writeAnswerOf, writeOutputOf}
 use Rattle.files.proofs.Tests.{filed, is-file}
@@ -68,7 +69,7 @@ module _ (file : List ℕ) (h : Header) (body : List ℕ) (sound : IsHeader h) (
   body-behind = ap (λ (f : Found). drop (f .start) file) header-is-found ∙ ap (drop (length (headerText h))) split ∙ drop-at (headerText h) body (length (headerText h)) refl
 
 -- a file begins with a header exactly where some header writes its front
-pub found-exactly : (file : List ℕ) → (isHeaded file ≡ true) ↔ ((h : Header) × ((body : List ℕ) × (IsHeader h × (file ≡ fileOf h body))))
+pub found-exactly : FoundExactly
 found-exactly file = (λ h. (headerIn file, (bodyIn file, (found-sound file h, found-whole file h))), λ x. ap (λ (f : Found). accepted (f .refusal)) (header-is-found file (x .0) (x .1 .0) (x .1 .1 .0) (x .1 .1 .1)))
 
 -- a file that some header writes, opened
@@ -99,15 +100,18 @@ module _ {file : List ℕ} {h : Header} {body : List ℕ} (hd : Heads file h bod
   body-back = rw heads-file body-found
 
 -- accepted are exactly the bytes that some header writes, with `bytes` equal to the length of what follows
-pub opens-exactly : (file : List ℕ) → (accepted (headerRefusal file) ≡ true) ↔ ((h : Header) × ((body : List ℕ) × Heads file h body))
+pub opens-exactly : OpensExactly
 opens-exactly file = (there (isFile file) refl, λ x. rw (heads-file (x .1 .1)))
   where
     there : (b : Bool) → isFile file ≡ b → accepted (headerRefusal file) ≡ true → (h : Header) × ((body : List ℕ) × Heads file h body)
     there true e h = (headerIn file, (bodyIn file, header-heads file e))
     there false e h = absurd (apart (sym (rw e at h)))
 
--- a header accepted, written again, is the same bytes
-pub header-again : (file : List ℕ) → accepted (headerRefusal file) ≡ true → file ≡ fileOf (headerAnswer file .header) (openAnswer file)
+-- and so the two claims
+pub comes-back : HeaderBack
+comes-back hd = (header-back hd, body-back hd)
+
+pub header-again : HeaderAgain
 header-again file h =
     let x = opens-exactly file .0 h in
     x .1 .1 .whole ∙ sym (ap₂ fileOf (ap (λ (o : Opened). o .header) (header-back (x .1 .1))) (body-back (x .1 .1)))
@@ -137,9 +141,12 @@ settings-sets text h =
     }
 
 -- accepted are exactly the texts that begin with what some lanes and mode write
-pub settings-exactly : (text : List ℕ) → (isSettings text ≡ true) ↔ ((L : ℕ) × ((m : Mode) × ((rest : List ℕ) × Sets text L m rest)))
+pub settings-exactly : SettingsExactly
 settings-exactly text =
     (λ h. (settingsIn text .lanes, (settingsIn text .mode, (drop (settingsIn text .length) text, settings-sets text h))), λ x. ap (λ (p : Packing). accepted (p .refusal)) (settings-back (x .1 .1 .1)))
+
+pub settings-told : SettingsBack
+settings-told s = settings-back s
 
 -- strict with 4,294,967,295 has the text of strict with none
 

@@ -39,6 +39,7 @@ use Rattle.files.proofs.Filing.{file-splits}
 use Rattle.files.proofs.Theorems.{settings-back, rest-found, settings-sets, header-heads, fields-found, heads-file, body-found, opened, held, same-file, file-accepted, file-list-back}
 use Rattle.programs.specs.Lines.{valueLines}
 use Rattle.programs.specs.kernel.Lines.{linesIn}
+use Rattle.programs.specs.Claims.{TextsExactly, TextValues}
 use Rattle.programs.specs.Programs.{refusedLine, output, sizeRefusal, fileRefusal, listToText, IsText, restIn, valuesIn, isText, textRefusal, textToList, isOne, HasOne, outAnswer, outLeft}
 use Rattle.programs.proofs.ValueLines.{lines-short}
 use Rattle.programs.proofs.Found.{values-found, found-small}
@@ -68,8 +69,11 @@ sound-text text h =
     }
 
 -- taken as sound are exactly the texts that some lanes, mode, first and values write
-pub texts-exactly : (text : List ℕ) → (isText text ≡ true) ↔ ((L : ℕ) × ((m : Mode) × ((vs : List ℕ) × IsText text L m vs)))
+pub texts-exactly : TextsExactly
 texts-exactly text = (λ h. (settingsIn text .lanes, (settingsIn text .mode, (valuesIn text, sound-text text h))), λ x. text-sound (x .1 .1 .1))
+
+pub values-told : TextValues
+values-told t = text-values t
 
 -- what text_to_list writes for a sound text that is not too long: the list's file, or the first of 7 and 8 that applies
 pub text-told : {text : List ℕ} {L : ℕ} {m : Mode} {vs : List ℕ} → IsText text L m vs → length text ≤ 65536 → textToList text ≡ output (measureRefusal L m vs) (fileFor L m vs)

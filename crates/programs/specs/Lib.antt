@@ -1,3 +1,4 @@
 pub mod Lines
 pub mod kernel
 pub mod Programs
+pub mod Claims

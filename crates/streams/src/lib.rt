@@ -1,4 +1,4 @@
-// Standard input and standard output, whole.
+// Standard input and standard output, whole; and arguments, which nobody reads.
 use libc::STDERR_FILENO;
 use libc::STDIN_FILENO;
 use libc::STDOUT_FILENO;
@@ -28,5 +28,15 @@ pub fn read_input(bytes: &mut [u8]) -> usize
 pub fn write_output(bytes: &[u8]) {
     if !io::write_all(STDOUT_FILENO, bytes) {
         io::write_all(STDERR_FILENO, b"the output could not be written whole\n");
+    }
+}
+
+// Where the program was given an argument, says on standard error that it reads none.
+pub fn warn_of_arguments() {
+    if os::arg_count() > 1 {
+        io::write_all(
+            STDERR_FILENO,
+            b"arguments are not read: the input is standard input, as after <\n",
+        );
     }
 }

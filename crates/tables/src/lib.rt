@@ -1,10 +1,15 @@
-// What the programs of checks share that read a table on standard input: checksums, bytes in hex, and where a letter stands.
+// What the programs of checks share that read a table on standard input: checksums, bytes in hex, the words of a line, buffers that are full of
+// marks, and what is written of an answer.
 ghost use mathlib.Core.Path.{_≡_};
 ghost use Prim.Native.Nat.{_+_, _*_, _/_, _%_, _≤_, _<_, min};
 ghost use lib.ListN.{length, take};
 ghost use Rattle.layout.specs.Layout.{table};
 ghost use Rattle.answers.specs.Answers.{over};
-ghost use Rattle.tables.specs.Tables.{checksum, digitOf, hexByte, placeOf};
+ghost use Rattle.tables.specs.Tables.{checksum, digitOf, hexByte, noiseAfter, placeOf};
+
+pub mod buffers;
+pub mod line;
+pub mod words;
 
 pub fn lesser(a: usize, b: usize) -> usize
     ensures { λ r. ⌜ r ≡ min a b ⌝ }
@@ -20,8 +25,10 @@ fn added(sum: u32, value: u32) -> u32
     ((sum as u64 * 31 + value as u64) % 4294967296) as u32
 }
 
-fn wide(byte: u8) -> u32
+// A byte as a value.
+pub fn wide(byte: u8) -> u32
     ensures { λ r. ⌜ r ≡ byte ⌝ }
+    ensures { λ r. ⌜ r < 256 ⌝ }
 {
     byte as u32
 }
@@ -100,4 +107,11 @@ pub fn place_of(letter: u8, text: &[u8]) -> usize
         i += 1;
     }
     i
+}
+
+// The next number of a small generator.
+pub fn noise_after(number: u32) -> u32
+    ensures { λ r. ⌜ r ≡ noiseAfter number ⌝ }
+{
+    ((number as u64 * 1103515245 + 12345) % 4294967296) as u32
 }

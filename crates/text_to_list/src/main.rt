@@ -2,9 +2,11 @@
 // the number.
 use programs::text_to_list;
 use streams::read_input;
+use streams::warn_of_arguments;
 use streams::write_output;
 
 fn main() {
+    warn_of_arguments();
     // one byte more than an input may have
     let mut input = [0u8; 65537];
     let size = read_input(&mut input);

@@ -24,7 +24,7 @@ loop-again c =
     let l = i .before in
     let bs = l .before .before .args .bytes .now in
     l .loop .inv ∙ sum-more (l .loop .sum) bs (l .loop .i) (i .loop-test .taken)
-    ∙ ap (λ (t : ℕ). sumFrom t (drop (l .loop .i + 1) bs)) (ap (λ (t : ℕ). (l .loop .sum * 31 + t) % 4294967296) (sym (w .wide .ensures)) ∙ sym (c .added .ensures))
+    ∙ ap (λ (t : ℕ). sumFrom t (drop (l .loop .i + 1) bs)) (ap (λ (t : ℕ). (l .loop .sum * 31 + t) % 4294967296) (sym (w .wide .ensures .0)) ∙ sym (c .added .ensures))
 
 returns : tie.Need-returns Inv-loop μ-loop
 returns c =

@@ -45,6 +45,7 @@ main-spec =
     (search needs)
     (search needs)
     (search needs)
+    (search needs)
     array-share-prefix-output
     slice-aggregate-write-output
     (search needs)

@@ -1,0 +1,12 @@
+-- By the definition.
+use Rattle.tables.specs.Tables.{full}
+use borrow.Author.Needs.{needs}
+use Rattle.tables.proofs.buffers.marked_bytes.Statement.{statement}
+use Rattle.tables.proofs.buffers.marked_bytes.Tie as tie
+
+returns : tie.Need-returns
+unfolding full
+returns c = search needs
+
+pub marked-bytes-spec : {M : Type 1} → statement M
+marked-bytes-spec = tie.close (tie.spec returns)

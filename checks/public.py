@@ -15,30 +15,35 @@ import sys
 TOP = pathlib.Path(__file__).resolve().parent.parent
 NOT_DETERMINED = {("streams", "read_input"), ("streams", "warn_of_arguments"), ("streams", "write_output")}  # docs/PROMISES.md, "What no contract says"
 PUBLIC = re.compile(r'^ *pub (?:extern "C" )?fn (\w+)\(', re.M)
-CONTRACT = re.compile(r"^use Rattle·(\w+)·proofs\.proofs\.(?:\w+\.)*(\w+)\.(Reads|Kinds) as (\S+)$", re.M)
+CONTRACT = re.compile(r"^use Rattle·(\w+)·proofs\.proofs\.((?:\w+\.)*\w+)\.(Reads|Kinds) as (\S+)$", re.M)
 ASKS_NOTHING = re.compile(r"^(\S+)-asks-nothing : AsksNothing (\S+)-kinds\.ps \2\.Pre$", re.M)
 DETERMINED = re.compile(r"^(\S+)-determined : \w*Determined (\S+)-kinds\.ps \2-kinds\.r \2\.Post\b", re.M)
 
 
 def functions(crate):
-    """The file and the name of each public function."""
+    """The file, the module and the name of each public function."""
     for source in sorted((crate / "src").glob("**/*.rt")):
         for name in PUBLIC.findall(source.read_text()):
-            yield source.relative_to(TOP), name
+            yield source.relative_to(TOP), source.stem, name
 
 
 def proved(crate):
-    """The functions of the crate that have the one line, and those that have the other."""
+    """The functions of the crate that have the one line, and those that have the other: each by its name, and by its module and name."""
     table, modules = crate / "proofs" / "Determined.antt", crate / "proofs" / "Lib.antt"
     if not table.exists() or not re.search(r"^(?:pub )?mod Determined$", modules.read_text(), re.M):
         return set(), set()
     text = table.read_text()
-    contracts = {(alias, part): name for package, name, part, alias in CONTRACT.findall(text) if package == crate.name}
+    contracts = {(alias, part): path for package, path, part, alias in CONTRACT.findall(text) if package == crate.name}
 
     def lines(shape):
-        """The functions that have such a line, over their own contract."""
-        said = ((line.replace("-", "_"), alias) for line, alias in shape.findall(text))
-        return {name for name, alias in said if contracts.get((alias, "Reads")) == contracts.get((f"{alias}-kinds", "Kinds")) == name}
+        """The functions that have such a line, over their own contract. A line has the function's name, or its module's and its own."""
+        found = set()
+        for line, alias in shape.findall(text):
+            path = contracts.get((alias, "Reads"), "")
+            names = {path.split(".")[-1], "_".join(path.split(".")[-2:])}
+            if path == contracts.get((f"{alias}-kinds", "Kinds")) and line.replace("-", "_") in names:
+                found |= names if line.replace("-", "_") != path.split(".")[-1] else {path.split(".")[-1]}
+        return found
 
     return lines(ASKS_NOTHING), lines(DETERMINED)
 
@@ -47,11 +52,14 @@ def main():
     passed = failed = 0
     for crate in sorted(path.parent.parent for path in (TOP / "crates").glob("*/src/lib.rt")):
         free, determined = proved(crate)
-        for source, name in functions(crate):
+        public = list(functions(crate))
+        for source, module, name in public:
+            twice = sum(other == name for _, _, other in public) > 1
+            line = f"{module}_{name}" if twice else name
             exception = (crate.name, name) in NOT_DETERMINED
-            asks = "asks nothing" if name in free else "MAY ASK SOMETHING"
-            answers = "exception" if exception else "determined" if name in determined else "NOT DETERMINED"
-            good = name in free and (exception or name in determined)
+            asks = "asks nothing" if line in free else "MAY ASK SOMETHING"
+            answers = "exception" if exception else "determined" if line in determined else "NOT DETERMINED"
+            good = line in free and (exception or line in determined)
             print(f"{source}: {name}: {asks}, {answers}")
             passed, failed = passed + good, failed + (not good)
     print(f"{passed} passed, {failed} failed")

@@ -13,26 +13,26 @@ fn wide(x: u8) -> u32
     x as u32
 }
 
-// The word that starts at byte `at`.
-fn load_word(bytes: &[u8], at: usize) -> u32
-    requires { ⌜ at + 4 ≤ length (now bytes) ⌝ }
-    ensures { λ r. ⌜ r ≡ wordAt (now (bytes .entry)) at ⌝ }
+// The word that starts start byte `start`.
+fn load_word(bytes: &[u8], start: usize) -> u32
+    requires { ⌜ start + 4 ≤ length (now bytes) ⌝ }
+    ensures { λ r. ⌜ r ≡ wordAt (now (bytes .entry)) start ⌝ }
 {
-    wide(bytes[at])
-        + wide(bytes[at + 1]) * 256
-        + wide(bytes[at + 2]) * 65536
-        + wide(bytes[at + 3]) * 16777216
+    wide(bytes[start])
+        + wide(bytes[start + 1]) * 256
+        + wide(bytes[start + 2]) * 65536
+        + wide(bytes[start + 3]) * 16777216
 }
 
-// The word v from byte `at` on.
-fn store_word(out: &mut [u8], at: usize, v: u32)
-    requires { ⌜ at + 4 ≤ length (now out) ⌝ }
-    ensures { λ r. ⌜ now (out .exit) ≡ withWord (now (out .entry)) at v ⌝ }
+// The word v from byte `start` on.
+fn store_word(out: &mut [u8], start: usize, v: u32)
+    requires { ⌜ start + 4 ≤ length (now out) ⌝ }
+    ensures { λ r. ⌜ now (out .exit) ≡ withWord (now (out .entry)) start v ⌝ }
 {
-    out[at] = (v % 256) as u8;
-    out[at + 1] = (v / 256 % 256) as u8;
-    out[at + 2] = (v / 65536 % 256) as u8;
-    out[at + 3] = (v / 16777216 % 256) as u8;
+    out[start] = (v % 256) as u8;
+    out[start + 1] = (v / 256 % 256) as u8;
+    out[start + 2] = (v / 65536 % 256) as u8;
+    out[start + 3] = (v / 16777216 % 256) as u8;
 }
 
 // The row of the words that the bytes start with, one for each lane in use.

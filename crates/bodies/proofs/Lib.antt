@@ -7,3 +7,4 @@ pub mod Narrow
 pub mod Numbers
 pub mod Stops
 pub mod Kept
+pub mod Claims

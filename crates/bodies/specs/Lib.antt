@@ -2,3 +2,4 @@ pub mod List
 pub mod Body
 pub mod Reading
 pub mod Stops
+pub mod Claims

@@ -25,7 +25,7 @@ use Rattle.text.proofs.Decimals.{fitted-all}
 use Rattle.files.specs.declared.heading.Header.{Header}
 use Rattle.files.specs.Header.{settings, fileOf, headerText}
 use Rattle.files.specs.kernel.Lengths.{longestHeader}
-use Rattle.files.specs.Calls.{headerFor, fileFor, writeRefusalOf, writeAnswerOf, writeOutputOf}
+use Rattle.files.specs.Calls.{headerFor, fileFor, writeFileRefusal, writeFileAnswer, writeFileOutput}
 use Rattle.files.proofs.Lines.{header-are, header-short}
 
 -- a file is its header's text, and the body
@@ -36,10 +36,10 @@ file-splits h body =
 
 -- what is refused whatever the room
 pub not-measured : (L : ℕ) (m : Mode) (vs before : List ℕ) {r q : Answer} → r ≡ measureAnswer L m vs → accepted (r .refusal) ≡ false → q ≡ answer (r .refusal) 0
-    → (q ≡ writeAnswerOf L m vs (length before)) × (before ≡ writeOutputOf L m vs before)
+    → (q ≡ writeFileAnswer L m vs (length before)) × (before ≡ writeFileOutput L m vs before)
 not-measured L m vs before {r} e h q =
     let k : r .refusal ≡ measureRefusal L m vs = ap (λ (a : Answer). a .refusal) e in
-    let j : r .refusal ≡ writeRefusalOf L m vs (length before) = k ∙ sym (first-stops (measureRefusal L m vs) _ (ap accepted (sym k) ∙ h)) in
+    let j : r .refusal ≡ writeFileRefusal L m vs (length before) = k ∙ sym (first-stops (measureRefusal L m vs) _ (ap accepted (sym k) ∙ h)) in
     (refused j h q (length (fileFor L m vs)), untouched j h (fileFor L m vs) before)
 
 -- what is not
@@ -72,9 +72,9 @@ module _ (L : ℕ) (m : Mode) (vs before : List ℕ) (r : Answer) (told : r ≡ 
     total =
         rw (len, body-length) (sym (length-append (headerText (headerFor L m vs)) (bodyOf L m vs)) ∙ ap length (file-splits (headerFor L m vs) (bodyOf L m vs)))
 
-    pub no-room : length before < n + r .length → {q : Answer} → q ≡ answer NoRoom 0 → (q ≡ writeAnswerOf L m vs (length before)) × (before ≡ writeOutputOf L m vs before)
+    pub no-room : length before < n + r .length → {q : Answer} → q ≡ answer NoRoom 0 → (q ≡ writeFileAnswer L m vs (length before)) × (before ≡ writeFileOutput L m vs before)
     no-room h q =
-        let j : NoRoom ≡ writeRefusalOf L m vs (length before) = rw (good, lt-ltb (length before) (length (fileFor L m vs)) (rw total at h)) in
+        let j : NoRoom ≡ writeFileRefusal L m vs (length before) = rw (good, lt-ltb (length before) (length (fileFor L m vs)) (rw total at h)) in
         (refused j refl q (length (fileFor L m vs)), untouched j refl (fileFor L m vs) before)
 
     module _ (room : n + r .length ≤ length before) (text out₁ : List ℕ) (spelt : text ≡ over (headerText (record { lanes = L; mode = m; count = length vs; bytes = r .length })) (replicate longestHeader 0))
@@ -108,10 +108,10 @@ module _ (L : ℕ) (m : Mode) (vs before : List ℕ) (r : Answer) (told : r ≡ 
         pub file-kept : length (putMid n (length out₁ - n) out₁ ys) ≡ length before
         file-kept = front-length whole (n + r .length) (length-append (headerText head) (bodyOf L m vs) ∙ rw (← body-length, len))
 
-        pub file-done : {q : Answer} → q ≡ answer Accepted (n + r .length) → (q ≡ writeAnswerOf L m vs (length before)) × (putMid n (length out₁ - n) out₁ ys ≡ writeOutputOf L m vs before)
+        pub file-done : {q : Answer} → q ≡ answer Accepted (n + r .length) → (q ≡ writeFileAnswer L m vs (length before)) × (putMid n (length out₁ - n) out₁ ys ≡ writeFileOutput L m vs before)
         unfolding fileFor
         file-done q =
             let e : headerText head ++ bodyOf L m vs ≡ fileFor L m vs = ap (λ (t : List ℕ). t ++ bodyOf L m vs) head-is ∙ file-splits (headerFor L m vs) (bodyOf L m vs) in
             let fit : length (fileFor L m vs) ≤ length before = omega (arith, total, room) in
-            let j : Accepted ≡ writeRefusalOf L m vs (length before) = rw (good, le-ltb (length before) (length (fileFor L m vs)) fit) in
+            let j : Accepted ≡ writeFileRefusal L m vs (length before) = rw (good, le-ltb (length before) (length (fileFor L m vs)) fit) in
             (answered j refl q total, overwritten j refl (fileFor L m vs) before (whole .here ∙ ap (λ (t : List ℕ). over t before) e))

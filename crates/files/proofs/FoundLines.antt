@@ -26,7 +26,7 @@ use Rattle.text.proofs.Lines.{line-length, numbered-rest}
 use Rattle.text.proofs.Found.{Numbered, line-there, line-found, no-name, no-value}
 use Rattle.files.specs.declared.finding.ModeLines.{ModeLines}
 use Rattle.files.specs.declared.finding.SizeLines.{SizeLines}
-use Rattle.files.specs.declared.Packing.{Packing}
+use Rattle.files.specs.declared.SettingsFound.{SettingsFound}
 use Rattle.files.specs.declared.Found.{Found}
 use Rattle.files.specs.declared.heading.Header.{Header}
 use Rattle.files.specs.Header.{settings, fileOf, headerText, IsHeader}
@@ -109,7 +109,7 @@ module _ (bs : List ℕ) where
 
 -- the settings
 
-pub record SettingsThere (bs : List ℕ) (p : Packing) : Type 0 where
+pub record SettingsThere (bs : List ℕ) (p : SettingsFound) : Type 0 where
   pub lanes : isLanes (p .lanes) ≡ true
   pub mode : starting (p .mode) ≡ p .mode
   pub first : firstOf (p .mode) < 2 ^ 32
@@ -205,7 +205,7 @@ unfolding fileOf
 header-parts h = settings-rest (h .lanes) (h .mode) (sizeText (h .count) (h .bytes))
 
 module _ (file : List ℕ) where
-  abbrev set : Packing
+  abbrev set : SettingsFound
   set = settingsIn file
 
   abbrev sizes : SizeLines

@@ -25,12 +25,12 @@ use Rattle.text.proofs.Beginnings.{begins-within, stands-within}
 use Rattle.text.proofs.Found.{line-within}
 use Rattle.files.specs.declared.finding.ModeLines.{ModeLines}
 use Rattle.files.specs.declared.finding.SizeLines.{SizeLines}
-use Rattle.files.specs.declared.Packing.{Packing}
+use Rattle.files.specs.declared.SettingsFound.{SettingsFound}
 use Rattle.files.specs.declared.Found.{Found}
-use Rattle.files.specs.declared.Opened.{Opened}
+use Rattle.files.specs.declared.HeaderAnswer.{HeaderAnswer}
 use Rattle.files.specs.kernel.Finding.{some, modeText, noneLines, sortedName, sortedLines, strictName, strictLines, modeLinesIn, noSettings, settingsIn, sizeLinesIn, nothingFound, headerFound}
 use Rattle.files.specs.Opening.{isSettings, isHeaded, headerIn, bodyIn, isFile, fileFound, headerAnswer}
-use Rattle.files.specs.Calls.{listIn, readRefusalOf, readAnswerOf, readOutputOf}
+use Rattle.files.specs.Calls.{listIn, readFileRefusal, readFileAnswer, readFileOutput}
 use Rattle.files.proofs.FoundLines.{when, is-some, mode-there, settings-there, sizes-there, header-there}
 
 -- the mode and first lines: s is what was found for sorted, and t for strict
@@ -106,7 +106,7 @@ module _ (text : List ℕ) (l : Numeral) (le : l ≡ numberLine (word "lanes=") 
     no-mode h = rw (← le, ← behind, a, h)
 
     module _ (some-mode : m .length ≡ 0 → ⊥) where
-      pub settings-are : _≡_ {A = Packing} (record { refusal = Accepted; lanes = l .value; mode = m .mode; length = l .length + m .length }) (settingsIn text)
+      pub settings-are : _≡_ {A = SettingsFound} (record { refusal = Accepted; lanes = l .value; mode = m .mode; length = l .length + m .length }) (settingsIn text)
       unfolding settingsIn
       settings-are = rw (← le, ← behind, a, is-some (m .length) some-mode)
 
@@ -116,7 +116,7 @@ module _ (text : List ℕ) (l : Numeral) (le : l ≡ numberLine (word "lanes=") 
           omega (arith, lanes-within, length-drop (l .length) text)
 
 -- the header: s is what was found first, and z behind it
-module _ (file : List ℕ) (s : Packing) (se : s ≡ settingsIn file) where
+module _ (file : List ℕ) (s : SettingsFound) (se : s ≡ settingsIn file) where
   pub no-settings : accepted (s .refusal) ≡ false → nothingFound ≡ headerFound file
   unfolding headerFound
   no-settings h = rw (← se, h)
@@ -147,7 +147,7 @@ module _ (file : List ℕ) (s : Packing) (se : s ≡ settingsIn file) where
 module _ (file : List ℕ) where
   pub not-set : isSettings file ≡ false → settingsIn file ≡ noSettings
   unfolding settingsIn
-  not-set = when (λ (p : Packing). accepted (p .refusal) ≡ false → p ≡ noSettings) (isLanes (numberLine (word "lanes=") file .value) && some (modeLinesIn (drop (numberLine (word "lanes=") file .length) file) .length)) (λ h z. absurd (apart z)) (λ h z. refl)
+  not-set = when (λ (p : SettingsFound). accepted (p .refusal) ≡ false → p ≡ noSettings) (isLanes (numberLine (word "lanes=") file .value) && some (modeLinesIn (drop (numberLine (word "lanes=") file .length) file) .length)) (λ h z. absurd (apart z)) (λ h z. refl)
 
   pub not-headed : isHeaded file ≡ false → headerFound file ≡ nothingFound
   unfolding headerFound
@@ -223,24 +223,24 @@ module _ (file : List ℕ) (f : Found) (fe : f ≡ fileFound file) where
   pub part-told : isFile file ≡ true → midOf (f .start) (length file - f .start) file ≡ bodyIn file
   part-told h = part-is (f .start) file ∙ ap (λ (x : Found). drop (x .start) file) (is-found h)
 
-  pub header-told : _≡_ {A = Opened} (record { refusal = f .refusal; header = f .header }) (headerAnswer file)
+  pub header-told : _≡_ {A = HeaderAnswer} (record { refusal = f .refusal; header = f .header }) (headerAnswer file)
   header-told = go (isFile file) refl
     where
-      go : (c : Bool) → isFile file ≡ c → _≡_ {A = Opened} (record { refusal = f .refusal; header = f .header }) (headerAnswer file)
+      go : (c : Bool) → isFile file ≡ c → _≡_ {A = HeaderAnswer} (record { refusal = f .refusal; header = f .header }) (headerAnswer file)
       go true q = rw (fe, q, accepted-is (headerFound file .refusal) (filed file q .headed))
       go false q = rw (fe, q)
 
   -- the two ways out of reading
-  pub bad-file : accepted (f .refusal) ≡ false → (before : List ℕ) {q : Answer} → q ≡ answer (f .refusal) 0 → (q ≡ readAnswerOf file (length before)) × (before ≡ readOutputOf file before)
+  pub bad-file : accepted (f .refusal) ≡ false → (before : List ℕ) {q : Answer} → q ≡ answer (f .refusal) 0 → (q ≡ readFileAnswer file (length before)) × (before ≡ readFileOutput file before)
   bad-file h before q =
       let no = told false h in
       let k : f .refusal ≡ BadHeader = rw (fe, no) in
-      let j : f .refusal ≡ readRefusalOf file (length before) = k ∙ rw no in
+      let j : f .refusal ≡ readFileRefusal file (length before) = k ∙ rw no in
       (refused j h q (headerIn file .count), untouched j h (listIn file) before)
 
   pub good-file : isFile file ≡ true → (before : List ℕ) {body : List ℕ} → body ≡ bodyIn file → {r : Answer} {after : List ℕ}
       → r ≡ readAnswer (f .header .lanes) (f .header .mode) (f .header .count) body (length before) → after ≡ readOutput (f .header .lanes) (f .header .mode) (f .header .count) body before
-      → (r ≡ readAnswerOf file (length before)) × (after ≡ readOutputOf file before)
+      → (r ≡ readFileAnswer file (length before)) × (after ≡ readFileOutput file before)
   good-file good before {body} b {r} {after} a o =
       let e = is-found good in
       let a′ : r ≡ readAnswer (headerIn file .lanes) (headerIn file .mode) (headerIn file .count) (bodyIn file) (length before) = a ∙ rw (e, b) in

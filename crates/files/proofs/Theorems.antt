@@ -29,15 +29,15 @@ use Rattle.lists.specs.Demand.{Holds}
 use Rattle.lists.proofs.Demand.{list-read, body-accepted, list-back}
 use Rattle.text.specs.Text.{begins}
 use Rattle.text.proofs.Beginnings.{stands-whole, whole-begins}
-use Rattle.files.specs.declared.Opened.{Opened}
+use Rattle.files.specs.declared.HeaderAnswer.{HeaderAnswer}
 use Rattle.files.specs.declared.Found.{Found}
-use Rattle.files.specs.declared.Packing.{Packing}
+use Rattle.files.specs.declared.SettingsFound.{SettingsFound}
 use Rattle.files.specs.declared.heading.Header.{Header}
 use Rattle.files.specs.Header.{modeWord, initialText, firstText, settings, fileOf, readBack, headerText, IsHeader, Heads, Sets}
 use Rattle.files.specs.kernel.Finding.{settingsIn, headerFound}
 use Rattle.files.specs.Claims.{FoundExactly, OpensExactly, HeaderBack, HeaderAgain, SettingsExactly, SettingsBack}
 use Rattle.files.specs.Opening.{isSettings, isHeaded, headerIn, bodyIn, isFile, headerRefusal, headerAnswer, openAnswer}
-use Rattle.files.specs.Calls.{listIn, readRefusalOf, readAnswerOf, readOutputOf, headerFor, fileFor, writeAnswerOf, writeOutputOf}
+use Rattle.files.specs.Calls.{listIn, readFileRefusal, readFileAnswer, readFileOutput, headerFor, fileFor, writeFileAnswer, writeFileOutput}
 use Rattle.files.proofs.Tests.{filed, is-file}
 use Rattle.files.proofs.Filing.{file-splits}
 use Rattle.files.proofs.FoundLines.{settings-there, settings-found, header-there, header-found}
@@ -109,12 +109,12 @@ opens-exactly file = (there (isFile file) refl, λ x. rw (heads-file (x .1 .1)))
 
 -- and so the two claims
 pub comes-back : HeaderBack
-comes-back hd = (header-back hd, body-back hd)
+comes-back file h body hd = (header-back hd, body-back hd)
 
 pub header-again : HeaderAgain
 header-again file h =
     let x = opens-exactly file .0 h in
-    x .1 .1 .whole ∙ sym (ap₂ fileOf (ap (λ (o : Opened). o .header) (header-back (x .1 .1))) (body-back (x .1 .1)))
+    x .1 .1 .whole ∙ sym (ap₂ fileOf (ap (λ (o : HeaderAnswer). o .header) (header-back (x .1 .1))) (body-back (x .1 .1)))
 
 -- the lanes, mode and first lines of a text, whatever stands behind them
 
@@ -126,7 +126,7 @@ module _ {text : List ℕ} {L : ℕ} {m : Mode} {rest : List ℕ} (s : Sets text
   settings-back = settings-found text L m (s .lanes) (s .mode) (s .first) (ap (begins (settings L m [])) split-text ∙ whole-begins (settings L m []) rest)
 
   pub rest-found : drop (settingsIn text .length) text ≡ rest
-  rest-found = ap (λ (p : Packing). drop (p .length) text) settings-back ∙ ap (drop (length (settings L m []))) split-text ∙ drop-at (settings L m []) rest (length (settings L m [])) refl
+  rest-found = ap (λ (p : SettingsFound). drop (p .length) text) settings-back ∙ ap (drop (length (settings L m []))) split-text ∙ drop-at (settings L m []) rest (length (settings L m [])) refl
 
 pub settings-sets : (text : List ℕ) → isSettings text ≡ true → Sets text (settingsIn text .lanes) (settingsIn text .mode) (drop (settingsIn text .length) text)
 settings-sets text h =
@@ -143,10 +143,10 @@ settings-sets text h =
 -- accepted are exactly the texts that begin with what some lanes and mode write
 pub settings-exactly : SettingsExactly
 settings-exactly text =
-    (λ h. (settingsIn text .lanes, (settingsIn text .mode, (drop (settingsIn text .length) text, settings-sets text h))), λ x. ap (λ (p : Packing). accepted (p .refusal)) (settings-back (x .1 .1 .1)))
+    (λ h. (settingsIn text .lanes, (settingsIn text .mode, (drop (settingsIn text .length) text, settings-sets text h))), λ x. ap (λ (p : SettingsFound). accepted (p .refusal)) (settings-back (x .1 .1 .1)))
 
 pub settings-told : SettingsBack
-settings-told s = settings-back s
+settings-told text L m rest s = settings-back s
 
 -- strict with 4,294,967,295 has the text of strict with none
 
@@ -181,13 +181,13 @@ body-starting L m vs = rw (starting-entries m vs)
 
 -- given a list and room, writing is accepted, and leaves exactly the list's file
 pub file-written : (L : ℕ) (m : Mode) (vs before : List ℕ) → isLanes L ≡ true → IsList m (length vs) vs → length (fileFor L m vs) ≤ length before
-    → (writeAnswerOf L m vs (length before) ≡ record { refusal = Accepted; length = length (fileFor L m vs) }) × (writeOutputOf L m vs before ≡ over (fileFor L m vs) before)
+    → (writeFileAnswer L m vs (length before) ≡ record { refusal = Accepted; length = length (fileFor L m vs) }) × (writeFileOutput L m vs before ≡ over (fileFor L m vs) before)
 file-written L m vs before lanes l room =
     let k : measureRefusal L m vs ≡ Accepted = accepted-is _ (measure-exactly L m vs .1 (record { lanes = lanes; few = l .few; order = l .order })) in
     rw (k, le-ltb (length before) (length (fileFor L m vs)) room) (refl, refl)
 
 -- a file accepted, written again from what was read, is the same bytes
-module _ (file : List ℕ) (room : ℕ) (bytes : Below 256 file) (h : accepted (readRefusalOf file room) ≡ true) where
+module _ (file : List ℕ) (room : ℕ) (bytes : Below 256 file) (h : accepted (readFileRefusal file room) ≡ true) where
   pub opened : Heads file (headerIn file) (bodyIn file)
   opened = header-heads file (heads-file (opens-exactly file .0 (both (headerRefusal file) _ h .0) .1 .1))
 
@@ -202,7 +202,7 @@ module _ (file : List ℕ) (room : ℕ) (bytes : Below 256 file) (h : accepted (
       rw (same, ← held .body) (sym (opened .whole))
 
   pub file-again : (before : List ℕ) → length file ≤ length before
-      → writeOutputOf (headerAnswer file .header .lanes) (headerAnswer file .header .mode) (listIn file) before ≡ over file before
+      → writeFileOutput (headerAnswer file .header .lanes) (headerAnswer file .header .mode) (listIn file) before ≡ over file before
   file-again before enough =
       let e : headerAnswer file .header ≡ headerIn file = rw (heads-file opened) in
       let l : IsList (headerIn file .mode) (length (listIn file)) (listIn file) = rw (held .list .size) (held .list) in
@@ -233,7 +233,7 @@ module _ (L : ℕ) (m : Mode) (vs : List ℕ) (lanes : isLanes L ≡ true) (firs
   small = rw (starting-first m) first
 
   -- whatever the room, if there is room for the list
-  pub file-accepted : (room : ℕ) → length vs ≤ room → readRefusalOf (fileFor L m vs) room ≡ Accepted
+  pub file-accepted : (room : ℕ) → length vs ≤ room → readFileRefusal (fileFor L m vs) room ≡ Accepted
   file-accepted room enough =
       let k : readRefusal L (starting m) (length vs) (bodyOf L m vs) room ≡ Accepted = accepted-is _ (body-accepted L (starting m) lanes small holds room enough) in
       rw (heads-file heads, fields-found heads, body-found heads, k)
@@ -242,7 +242,7 @@ module _ (L : ℕ) (m : Mode) (vs : List ℕ) (lanes : isLanes L ≡ true) (firs
   file-list-back =
       rw (fields-found heads, body-found heads) (list-back L (starting m) lanes small holds)
 
-  pub file-read-back : (out : List ℕ) → length vs ≤ length out → (readAnswerOf (fileFor L m vs) (length out) ≡ record { refusal = Accepted; length = length vs }) × (readOutputOf (fileFor L m vs) out ≡ over vs out)
+  pub file-read-back : (out : List ℕ) → length vs ≤ length out → (readFileAnswer (fileFor L m vs) (length out) ≡ record { refusal = Accepted; length = length vs }) × (readFileOutput (fileFor L m vs) out ≡ over vs out)
   file-read-back out room =
       let k = file-accepted (length out) room in
       (rw k (ap (λ (h : Header). record { refusal = Accepted; length = h .count }) (fields-found heads)), rw (k, file-list-back))

@@ -21,14 +21,14 @@ abbrev pub listIn : List ℕ → List ℕ
 listIn file = listOf (headerIn file .lanes) (headerIn file .mode) (headerIn file .count) (bodyIn file)
 
 -- "Read a file: 12, then as a list", with an output of `room` values
-abbrev pub readRefusalOf : List ℕ → ℕ → Refusal
-readRefusalOf file room = orElse (headerRefusal file) (readRefusal (headerIn file .lanes) (headerIn file .mode) (headerIn file .count) (bodyIn file) room)
+abbrev pub readFileRefusal : List ℕ → ℕ → Refusal
+readFileRefusal file room = orElse (headerRefusal file) (readRefusal (headerIn file .lanes) (headerIn file .mode) (headerIn file .count) (bodyIn file) room)
 
-abbrev pub readAnswerOf : List ℕ → ℕ → Answer
-readAnswerOf file room = answer (readRefusalOf file room) (headerIn file .count)
+abbrev pub readFileAnswer : List ℕ → ℕ → Answer
+readFileAnswer file room = answer (readFileRefusal file room) (headerIn file .count)
 
-abbrev pub readOutputOf : List ℕ → List ℕ → List ℕ
-readOutputOf file before = written (readRefusalOf file (length before)) (listIn file) before
+abbrev pub readFileOutput : List ℕ → List ℕ → List ℕ
+readFileOutput file before = written (readFileRefusal file (length before)) (listIn file) before
 
 -- the file of the list vs
 abbrev pub headerFor : ℕ → Mode → List ℕ → Header
@@ -38,14 +38,14 @@ unfoldable pub fileFor : ℕ → Mode → List ℕ → List ℕ
 fileFor L m vs = fileOf (headerFor L m vs) (bodyOf L m vs)
 
 -- "Write a file: 1, 7, 8, 4, with room for header and body"
-abbrev pub writeRefusalOf : ℕ → Mode → List ℕ → ℕ → Refusal
-writeRefusalOf L m vs room =
+abbrev pub writeFileRefusal : ℕ → Mode → List ℕ → ℕ → Refusal
+writeFileRefusal L m vs room =
     orElse (measureRefusal L m vs)
     (refuse (ltb room (length (fileFor L m vs))) NoRoom
     Accepted)
 
-abbrev pub writeAnswerOf : ℕ → Mode → List ℕ → ℕ → Answer
-writeAnswerOf L m vs room = answer (writeRefusalOf L m vs room) (length (fileFor L m vs))
+abbrev pub writeFileAnswer : ℕ → Mode → List ℕ → ℕ → Answer
+writeFileAnswer L m vs room = answer (writeFileRefusal L m vs room) (length (fileFor L m vs))
 
-abbrev pub writeOutputOf : ℕ → Mode → List ℕ → List ℕ → List ℕ
-writeOutputOf L m vs before = written (writeRefusalOf L m vs (length before)) (fileFor L m vs) before
+abbrev pub writeFileOutput : ℕ → Mode → List ℕ → List ℕ → List ℕ
+writeFileOutput L m vs before = written (writeFileRefusal L m vs (length before)) (fileFor L m vs) before

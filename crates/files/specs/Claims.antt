@@ -28,7 +28,7 @@ FoundExactly = (file : List ℕ) → (isHeaded file ≡ true) ↔ ((h : Header) 
 
 -- such a header is what the header call hands out, and what stands behind it is what the opener hands back
 abbrev pub HeaderBack : Type 0
-HeaderBack = {file : List ℕ} {h : Header} {body : List ℕ} → Heads file h body → (headerAnswer file ≡ record { refusal = Accepted; header = h }) × (openAnswer file ≡ body)
+HeaderBack = (file : List ℕ) (h : Header) (body : List ℕ) → Heads file h body → (headerAnswer file ≡ record { refusal = Accepted; header = h }) × (openAnswer file ≡ body)
 
 -- a header accepted, written again, is the same bytes
 abbrev pub HeaderAgain : Type 0
@@ -39,7 +39,7 @@ abbrev pub SettingsExactly : Type 0
 SettingsExactly = (text : List ℕ) → (isSettings text ≡ true) ↔ ((L : ℕ) × ((m : Mode) × ((rest : List ℕ) × Sets text L m rest)))
 
 abbrev pub SettingsBack : Type 0
-SettingsBack = {text : List ℕ} {L : ℕ} {m : Mode} {rest : List ℕ} → Sets text L m rest → settingsIn text ≡ record { refusal = Accepted; lanes = L; mode = m; length = length (settings L m []) }
+SettingsBack = (text : List ℕ) (L : ℕ) (m : Mode) (rest : List ℕ) → Sets text L m rest → settingsIn text ≡ record { refusal = Accepted; lanes = L; mode = m; length = length (settings L m []) }
 
 -- no file is longer than 16,566 bytes
 abbrev pub LargestFile : Type 0

@@ -9,7 +9,7 @@ use Rattle.answers.specs.declared.Refusal.{Refusal}
 use Rattle.answers.specs.declared.Refusal.the-variants.{Accepted, BadHeader}
 use Rattle.answers.specs.Refusals.{accepted, refuse}
 use Rattle.files.specs.declared.heading.Header.{Header}
-use Rattle.files.specs.declared.Opened.{Opened}
+use Rattle.files.specs.declared.HeaderAnswer.{HeaderAnswer}
 use Rattle.files.specs.declared.Found.{Found}
 use Rattle.files.specs.kernel.Finding.{settingsIn, noHeader, nothingFound, headerFound}
 
@@ -40,7 +40,7 @@ abbrev pub headerRefusal : List ℕ → Refusal
 headerRefusal file = refuse (not (isFile file)) BadHeader Accepted
 
 -- the header call
-abbrev pub headerAnswer : List ℕ → Opened
+abbrev pub headerAnswer : List ℕ → HeaderAnswer
 headerAnswer file = record { refusal = headerRefusal file; header = cond (isFile file) (headerIn file) noHeader }
 
 -- "The body is handed back as a part of the caller's file bytes .. where that is given it hands back the empty part"

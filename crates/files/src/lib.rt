@@ -15,13 +15,13 @@ ghost use mathlib.Core.Path.{_≡_};
 ghost use lib.ListN.{length};
 ghost use Rattle.files.specs.kernel.Finding.{settingsIn, nothingFound, headerFound};
 ghost use Rattle.files.specs.Opening.{fileFound, headerAnswer, openAnswer};
-ghost use Rattle.files.specs.Calls.{readAnswerOf, readOutputOf, writeAnswerOf, writeOutputOf};
+ghost use Rattle.files.specs.Calls.{readFileAnswer, readFileOutput, writeFileAnswer, writeFileOutput};
 
 mod finding;
 pub mod heading;
 
 // How a list is packed, as the lanes, mode and first lines say it, and how long these lines are.
-pub struct Packing {
+pub struct SettingsFound {
     pub refusal: Refusal,
     pub lanes: u32,
     pub mode: Mode,
@@ -29,10 +29,10 @@ pub struct Packing {
 }
 
 // What the lanes, mode and first lines say that a text or a file begins with; or 12, lanes 0, plain and length 0.
-pub fn settings(text: &[u8]) -> Packing
+pub fn settings(text: &[u8]) -> SettingsFound
     ensures { λ r. ⌜ r ≡ settingsIn (now (text .entry)) ⌝ }
 {
-    let none = Packing {
+    let none = SettingsFound {
         refusal: Refusal::BadHeader,
         lanes: 0,
         mode: Mode::Plain,
@@ -49,7 +49,7 @@ pub fn settings(text: &[u8]) -> Packing
         return none;
     }
     let mode = moded.mode;
-    Packing {
+    SettingsFound {
         refusal: Refusal::Accepted,
         lanes,
         mode,
@@ -122,19 +122,19 @@ pub fn find_file(file: &[u8]) -> Found
 }
 
 // What the header call answers.
-pub struct Opened {
+pub struct HeaderAnswer {
     pub refusal: Refusal,
     pub header: Header,
 }
 
 // The header of a file, or 12 and a header of nothing.
-pub fn header(file: &[u8]) -> Opened
+pub fn header(file: &[u8]) -> HeaderAnswer
     ensures { λ r. ⌜ r ≡ headerAnswer (now (file .entry)) ⌝ }
 {
     let found = find_file(file);
     let refusal = found.refusal;
     let header = found.header;
-    Opened { refusal, header }
+    HeaderAnswer { refusal, header }
 }
 
 // The body of a file, or the empty part.
@@ -152,8 +152,8 @@ pub fn open(file: &[u8]) -> &[u8]
 
 // Read a file: the list that it holds, at the front of `values`. Answers its count.
 pub fn read(file: &[u8], values: &mut [u32]) -> Answer
-    ensures { λ r. ⌜ r ≡ readAnswerOf (now (file .entry)) (length (now (values .entry))) ⌝ }
-    ensures { λ r. ⌜ now (values .exit) ≡ readOutputOf (now (file .entry)) (now (values .entry)) ⌝ }
+    ensures { λ r. ⌜ r ≡ readFileAnswer (now (file .entry)) (length (now (values .entry))) ⌝ }
+    ensures { λ r. ⌜ now (values .exit) ≡ readFileOutput (now (file .entry)) (now (values .entry)) ⌝ }
 {
     let found = find_file(file);
     let refusal = found.refusal;
@@ -170,8 +170,8 @@ pub fn read(file: &[u8], values: &mut [u32]) -> Answer
 
 // Write a file: the header and the body of a list, at the front of `file`. Answers the file's length.
 pub fn write(lanes: usize, mode: Mode, values: &[u32], file: &mut [u8]) -> Answer
-    ensures { λ r. ⌜ r ≡ writeAnswerOf lanes mode (now (values .entry)) (length (now (file .entry))) ⌝ }
-    ensures { λ r. ⌜ now (file .exit) ≡ writeOutputOf lanes mode (now (values .entry)) (now (file .entry)) ⌝ }
+    ensures { λ r. ⌜ r ≡ writeFileAnswer lanes mode (now (values .entry)) (length (now (file .entry))) ⌝ }
+    ensures { λ r. ⌜ now (file .exit) ≡ writeFileOutput lanes mode (now (values .entry)) (now (file .entry)) ⌝ }
 {
     let measured = measure(lanes, mode, values);
     let refusal = measured.refusal;

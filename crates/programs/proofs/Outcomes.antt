@@ -26,10 +26,10 @@ use Rattle.bodies.proofs.Sizes.{length-list}
 use Rattle.lists.specs.Calls.{measureRefusal}
 use Rattle.lists.proofs.Accepts.{Readable, read-exactly}
 use Rattle.text.specs.Text.{same}
-use Rattle.files.specs.declared.Packing.{Packing}
+use Rattle.files.specs.declared.SettingsFound.{SettingsFound}
 use Rattle.files.specs.kernel.Finding.{settingsIn}
 use Rattle.files.specs.Opening.{isSettings, headerIn, bodyIn, headerRefusal}
-use Rattle.files.specs.Calls.{listIn, readRefusalOf, readAnswerOf, readOutputOf, fileFor, writeRefusalOf, writeAnswerOf, writeOutputOf}
+use Rattle.files.specs.Calls.{listIn, readFileRefusal, readFileAnswer, readFileOutput, fileFor, writeFileRefusal, writeFileAnswer, writeFileOutput}
 use Rattle.files.proofs.Tests.{not-set}
 use Rattle.files.proofs.Theorems.{settings-sets}
 use Rattle.programs.specs.declared.lines.Lines.{Lines}
@@ -49,18 +49,18 @@ module _ (file : List ℕ) where
   file-too-long h = sym (rw (lt-ltb 65536 (length file) h))
 
   module _ (fits : length file ≤ 65536) where
-    pub file-refused : (k : Refusal) → k ≡ readRefusalOf file most → accepted k ≡ false → refusedLine k ≡ listToText file
+    pub file-refused : (k : Refusal) → k ≡ readFileRefusal file most → accepted k ≡ false → refusedLine k ≡ listToText file
     unfolding listToText
     file-refused k e h =
-        let f : accepted (readRefusalOf file most) ≡ false = ap accepted (sym e) ∙ h in
+        let f : accepted (readFileRefusal file most) ≡ false = ap accepted (sym e) ∙ h in
         sym (rw (le-ltb 65536 (length file) fits, f, e))
 
-    pub file-accepted : accepted (readRefusalOf file most) ≡ true → valueLines (listIn file) ≡ listToText file
+    pub file-accepted : accepted (readFileRefusal file most) ≡ true → valueLines (listIn file) ≡ listToText file
     unfolding listToText
     file-accepted h = sym (rw (le-ltb 65536 (length file) fits, h))
 
   -- the list that was read
-  module _ (h : accepted (readRefusalOf file most) ≡ true) where
+  module _ (h : accepted (readFileRefusal file most) ≡ true) where
     readable : Readable (headerIn file .lanes) (headerIn file .mode) (headerIn file .count) (bodyIn file) most
     readable = read-exactly (headerIn file .lanes) (headerIn file .mode) (headerIn file .count) (bodyIn file) most .0 (both (headerRefusal file) _ h .1)
 
@@ -70,10 +70,10 @@ module _ (file : List ℕ) where
     pub list-few : length (listIn file) ≤ most
     list-few = omega (arith, list-length, readable .few)
 
-    pub list-told : (before : List ℕ) (r : Answer) (after : List ℕ) → r ≡ readAnswerOf file (length before) → after ≡ readOutputOf file before → length before ≡ most
+    pub list-told : (before : List ℕ) (r : Answer) (after : List ℕ) → r ≡ readFileAnswer file (length before) → after ≡ readFileOutput file before → length before ≡ most
         → (r .length ≡ length (listIn file)) × (take (r .length) after ≡ listIn file)
     list-told before r after a o room =
-        let g : accepted (readRefusalOf file (length before)) ≡ true = rw room h in
+        let g : accepted (readFileRefusal file (length before)) ≡ true = rw room h in
         let n : r .length ≡ length (listIn file) = ap (λ (t : Answer). t .length) a ∙ rw g (sym list-length) in
         let w : after ≡ over (listIn file) before = o ∙ rw g in
         (n, ap (take (r .length)) w ∙ take-over (r .length) (listIn file) before (sym n))
@@ -98,7 +98,7 @@ module _ (text : List ℕ) where
     -- the three lines
     pub no-settings : isSettings text ≡ false → refusedLine (settingsIn text .refusal) ≡ textToList text
     unfolding isText
-    no-settings h = ap (λ (p : Packing). refusedLine (p .refusal)) (not-set text h) ∙ not-sound (rw h)
+    no-settings h = ap (λ (p : SettingsFound). refusedLine (p .refusal)) (not-set text h) ∙ not-sound (rw h)
 
     -- and the values
     module _ (set : isSettings text ≡ true) where
@@ -150,11 +150,11 @@ measure-not-four L m vs =
     NotFour k = numberOf k ≡ 4 → ⊥
 
 -- a list, packed into a file: r is what writing it answered, and `after` what that left
-module _ (L : ℕ) (m : Mode) (vs before : List ℕ) {r : Answer} {after : List ℕ} (told : (r ≡ writeAnswerOf L m vs (length before)) × (after ≡ writeOutputOf L m vs before)) where
+module _ (L : ℕ) (m : Mode) (vs before : List ℕ) {r : Answer} {after : List ℕ} (told : (r ≡ writeFileAnswer L m vs (length before)) × (after ≡ writeFileOutput L m vs before)) where
   abbrev Told : Type 0
   Told = (r ≡ outAnswer (output (measureRefusal L m vs) (fileFor L m vs)) (length before)) × (after ≡ outLeft (output (measureRefusal L m vs) (fileFor L m vs)) before)
 
-  given : r .refusal ≡ writeRefusalOf L m vs (length before)
+  given : r .refusal ≡ writeFileRefusal L m vs (length before)
   given = ap (λ (a : Answer). a .refusal) (told .0)
 
   measured : accepted (measureRefusal L m vs) ≡ true → Told

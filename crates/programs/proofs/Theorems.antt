@@ -30,17 +30,17 @@ use Rattle.text.proofs.Lines.{number-line-short}
 use Rattle.text.proofs.Beginnings.{same-is, is-same}
 use Rattle.files.specs.declared.heading.Header.{Header}
 use Rattle.files.specs.Header.{settings, headerText, Heads}
-use Rattle.files.specs.declared.Packing.{Packing}
+use Rattle.files.specs.declared.SettingsFound.{SettingsFound}
 use Rattle.files.specs.kernel.Finding.{settingsIn}
 use Rattle.files.specs.Opening.{isSettings, headerIn, bodyIn, isFile}
-use Rattle.files.specs.Calls.{listIn, readRefusalOf, headerFor, fileFor}
+use Rattle.files.specs.Calls.{listIn, readFileRefusal, headerFor, fileFor}
 use Rattle.files.proofs.Lines.{settings-rest, settings-short, header-short}
 use Rattle.files.proofs.Filing.{file-splits}
 use Rattle.files.proofs.Theorems.{settings-back, rest-found, settings-sets, header-heads, fields-found, heads-file, body-found, opened, held, same-file, file-accepted, file-list-back}
 use Rattle.programs.specs.Lines.{valueLines}
 use Rattle.programs.specs.kernel.Lines.{linesIn}
 use Rattle.programs.specs.Claims.{TextsExactly, TextValues}
-use Rattle.programs.specs.Programs.{refusedLine, output, sizeRefusal, fileRefusal, listToText, IsText, restIn, valuesIn, isText, textRefusal, textToList, isOne, HasOne, outAnswer, outLeft}
+use Rattle.programs.specs.Programs.{refusedLine, output, limitRefusal, fileRefusal, listToText, IsText, restIn, valuesIn, isText, textRefusal, textToList, isOne, HasOne, outAnswer, outLeft}
 use Rattle.programs.proofs.ValueLines.{lines-short}
 use Rattle.programs.proofs.Found.{values-found, found-small}
 use Rattle.programs.proofs.Outcomes.{list-few, file-accepted as printed-values}
@@ -54,7 +54,7 @@ module _ {text : List ℕ} {L : ℕ} {m : Mode} {vs : List ℕ} (t : IsText text
 
   pub text-sound : isText text ≡ true
   unfolding isText
-  text-sound = rw (ap (λ (p : Packing). accepted (p .refusal)) (settings-back (t .sets)), text-values, rest-found (t .sets)) (is-same (valueLines vs))
+  text-sound = rw (ap (λ (p : SettingsFound). accepted (p .refusal)) (settings-back (t .sets)), text-values, rest-found (t .sets)) (is-same (valueLines vs))
 
 -- and what is found writes the text
 pub sound-text : (text : List ℕ) → isText text ≡ true → IsText text (settingsIn text .lanes) (settingsIn text .mode) (valuesIn text)
@@ -73,7 +73,7 @@ pub texts-exactly : TextsExactly
 texts-exactly text = (λ h. (settingsIn text .lanes, (settingsIn text .mode, (valuesIn text, sound-text text h))), λ x. text-sound (x .1 .1 .1))
 
 pub values-told : TextValues
-values-told t = text-values t
+values-told text L m vs t = text-values t
 
 -- what text_to_list writes for a sound text that is not too long: the list's file, or the first of 7 and 8 that applies
 pub text-told : {text : List ℕ} {L : ℕ} {m : Mode} {vs : List ℕ} → IsText text L m vs → length text ≤ 65536 → textToList text ≡ output (measureRefusal L m vs) (fileFor L m vs)
@@ -105,10 +105,10 @@ pub text-short : (file : List ℕ) → length (listToText file) ≤ 45056
 unfolding listToText
 text-short file =
     output-short (fileRefusal file) (valueLines (listIn file)) 45056 (omega arith)
-    (λ h. omega (arith, lines-short (listIn file), list-few file (both-is (sizeRefusal file) h)))
+    (λ h. omega (arith, lines-short (listIn file), list-few file (both-is (limitRefusal file) h)))
   where
-    both-is : (k : Refusal) → accepted (orElse k (readRefusalOf file most)) ≡ true → accepted (readRefusalOf file most) ≡ true
-    both-is k h = both k (readRefusalOf file most) h .1
+    both-is : (k : Refusal) → accepted (orElse k (readFileRefusal file most)) ≡ true → accepted (readFileRefusal file most) ≡ true
+    both-is k h = both k (readFileRefusal file most) h .1
 
 -- the longest header, and the largest body
 file-length : (L : ℕ) (m : Mode) (vs : List ℕ) → accepted (measureRefusal L m vs) ≡ true → length (fileFor L m vs) ≤ 16593
@@ -122,7 +122,7 @@ pub file-short : (text : List ℕ) → length (textToList text) ≤ 16593
 unfolding textToList
 file-short text =
     output-short (textRefusal text) (fileFor (settingsIn text .lanes) (settingsIn text .mode) (valuesIn text)) 16593 (omega arith)
-    (λ h. file-length (settingsIn text .lanes) (settingsIn text .mode) (valuesIn text) (passed (not (isText text)) BadHeader (measureRefusal (settingsIn text .lanes) (settingsIn text .mode) (valuesIn text)) refl (both (sizeRefusal text) _ h .1) .1))
+    (λ h. file-length (settingsIn text .lanes) (settingsIn text .mode) (valuesIn text) (passed (not (isText text)) BadHeader (measureRefusal (settingsIn text .lanes) (settingsIn text .mode) (valuesIn text)) refl (both (limitRefusal text) _ h .1) .1))
 
 -- so with that much room 4 is not the answer of a call, and all of it goes out
 pub whole-answer : (t : List ℕ) (room : ℕ) → length t ≤ room → outAnswer t room ≡ record { refusal = Accepted; length = length t }
@@ -147,7 +147,7 @@ answer-within t room e = rw e (out-within t room)
 pub file-numbers : (file : List ℕ) → HasOne (0 ∷ 12 ∷ 7 ∷ 5 ∷ 2 ∷ 10 ∷ 9 ∷ 8 ∷ 11 ∷ []) (fileRefusal file)
 unfolding isOne
 file-numbers file =
-    either Mine (sizeRefusal file) _ (refused Mine (ltb 65536 (length file)) BadHeader Accepted refl refl) (go (isFile file) refl)
+    either Mine (limitRefusal file) _ (refused Mine (ltb 65536 (length file)) BadHeader Accepted refl refl) (go (isFile file) refl)
   where
     Mine : Refusal → Type 0
     Mine = HasOne (0 ∷ 12 ∷ 7 ∷ 5 ∷ 2 ∷ 10 ∷ 9 ∷ 8 ∷ 11 ∷ [])
@@ -156,7 +156,7 @@ file-numbers file =
     tests true next h = refl
     tests false next h = h
 
-    go : (b : Bool) → isFile file ≡ b → HasOne (0 ∷ 12 ∷ 7 ∷ 5 ∷ 2 ∷ 10 ∷ 9 ∷ 8 ∷ 11 ∷ []) (readRefusalOf file most)
+    go : (b : Bool) → isFile file ≡ b → HasOne (0 ∷ 12 ∷ 7 ∷ 5 ∷ 2 ∷ 10 ∷ 9 ∷ 8 ∷ 11 ∷ []) (readFileRefusal file most)
     go false q = rw q
     go true q =
         rw (q, header-heads file q .sound .lanes)
@@ -167,7 +167,7 @@ file-numbers file =
 pub text-numbers : (text : List ℕ) → HasOne (0 ∷ 12 ∷ 7 ∷ 8 ∷ []) (textRefusal text)
 unfolding isOne measureRefusal
 text-numbers text =
-    either Mine (sizeRefusal text) _ (refused Mine (ltb 65536 (length text)) BadHeader Accepted refl refl) (go (isText text) refl)
+    either Mine (limitRefusal text) _ (refused Mine (ltb 65536 (length text)) BadHeader Accepted refl refl) (go (isText text) refl)
   where
     Mine : Refusal → Type 0
     Mine = HasOne (0 ∷ 12 ∷ 7 ∷ 8 ∷ [])
@@ -210,7 +210,7 @@ values-back {text} {L} {m} {vs} t l =
     rw (f, le-ltb 65536 (length (fileFor L m vs)) short, file-accepted L m vs lanes (t .sets .first) l most (l .few), file-list-back L m vs lanes (t .sets .first) l)
 
 -- a file that is read, printed and packed again: the same bytes
-module _ (file : List ℕ) (bytes : Below 256 file) (h : accepted (readRefusalOf file most) ≡ true) where
+module _ (file : List ℕ) (bytes : Below 256 file) (h : accepted (readFileRefusal file most) ≡ true) where
   abbrev lanes : ℕ
   lanes = headerIn file .lanes
 

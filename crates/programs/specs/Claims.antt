@@ -14,4 +14,4 @@ TextsExactly = (text : List ℕ) → (isText text ≡ true) ↔ ((L : ℕ) × ((
 
 -- and those values are found
 abbrev pub TextValues : Type 0
-TextValues = {text : List ℕ} {L : ℕ} {m : Mode} {vs : List ℕ} → IsText text L m vs → valuesIn text ≡ vs
+TextValues = (text : List ℕ) (L : ℕ) (m : Mode) (vs : List ℕ) → IsText text L m vs → valuesIn text ≡ vs

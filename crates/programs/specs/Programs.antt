@@ -18,7 +18,7 @@ use Rattle.text.specs.Text.{decimal, line, same}
 use Rattle.files.specs.Header.{Sets}
 use Rattle.files.specs.Opening.{isSettings}
 use Rattle.files.specs.kernel.Finding.{settingsIn}
-use Rattle.files.specs.Calls.{listIn, readRefusalOf, fileFor}
+use Rattle.files.specs.Calls.{listIn, readFileRefusal, fileFor}
 use Rattle.programs.specs.Lines.{valueLines}
 use Rattle.programs.specs.kernel.Lines.{linesIn}
 
@@ -35,12 +35,12 @@ abbrev pub limit : ℕ
 limit = 65536
 
 -- "input over 65,536 bytes, is 12, and 12 comes before any other number"
-abbrev pub sizeRefusal : List ℕ → Refusal
-sizeRefusal input = refuse (ltb limit (length input)) BadHeader Accepted
+abbrev pub limitRefusal : List ℕ → Refusal
+limitRefusal input = refuse (ltb limit (length input)) BadHeader Accepted
 
 -- what a file is refused for. There is room for 4,096 values.
 abbrev pub fileRefusal : List ℕ → Refusal
-fileRefusal file = orElse (sizeRefusal file) (readRefusalOf file most)
+fileRefusal file = orElse (limitRefusal file) (readFileRefusal file most)
 
 -- "One program reads such a file on standard input and writes each value in decimal on its own line, or the line `refused=` and the
 -- number."
@@ -67,7 +67,7 @@ isText text = isSettings text && same (valueLines (valuesIn text)) (restIn text)
 -- "Text that breaks this form anywhere .., or input over 65,536 bytes, is 12, and 12 comes before any other number": then 7 and 8
 abbrev pub textRefusal : List ℕ → Refusal
 textRefusal text =
-    orElse (sizeRefusal text)
+    orElse (limitRefusal text)
     (refuse (not (isText text)) BadHeader
     (measureRefusal (settingsIn text .lanes) (settingsIn text .mode) (valuesIn text)))
 

@@ -8,7 +8,7 @@ use Rattle.answers.specs.Refusals.{numberOf}
 use Rattle.blocks.specs.Calls.{sizeAnswer, packAnswer, packOutput, unpackAnswer, unpackOutput, widthAnswer}
 use Rattle.lists.specs.Calls.{measureAnswer, writeAnswer, writeOutput, readAnswer, readOutput}
 use Rattle.files.specs.Opening.{fileFound, headerRefusal, headerAnswer, openAnswer}
-use Rattle.files.specs.Calls.{readAnswerOf, readOutputOf, writeAnswerOf, writeOutputOf}
+use Rattle.files.specs.Calls.{readFileAnswer, readFileOutput, writeFileAnswer, writeFileOutput}
 use Rattle.sisalshed.specs.declared.CAnswer.{CAnswer}
 use Rattle.sisalshed.specs.declared.CHeader.{CHeader}
 use Rattle.sisalshed.specs.declared.CBody.{CBody}
@@ -60,13 +60,13 @@ abbrev pub bodyCrossed : List ℕ → CBody
 bodyCrossed file = record { number = numberOf (headerRefusal file); start = fileFound file .start; length = length (openAnswer file) }
 
 abbrev pub readFileCrossed : List ℕ → ℕ → CAnswer
-readFileCrossed file room = crossed (readAnswerOf file room)
+readFileCrossed file room = crossed (readFileAnswer file room)
 
 abbrev pub readFileLeft : List ℕ → List ℕ → List ℕ
-readFileLeft file before = readOutputOf file before
+readFileLeft file before = readFileOutput file before
 
 abbrev pub writeFileCrossed : ℕ → ℕ → ℕ → List ℕ → ℕ → CAnswer
-writeFileCrossed L kind first vs room = cond (isKind kind) (crossed (writeAnswerOf L (modeOf kind first) vs room)) badKind
+writeFileCrossed L kind first vs room = cond (isKind kind) (crossed (writeFileAnswer L (modeOf kind first) vs room)) badKind
 
 abbrev pub writeFileLeft : ℕ → ℕ → ℕ → List ℕ → List ℕ → List ℕ
-writeFileLeft L kind first vs before = cond (isKind kind) (writeOutputOf L (modeOf kind first) vs before) before
+writeFileLeft L kind first vs before = cond (isKind kind) (writeFileOutput L (modeOf kind first) vs before) before

@@ -1,8 +1,8 @@
-// The eleven calls. Each is given the arguments and the input of its line, and all that it answers is written, with the checksum of the
-// memory that it was lent to write.
+// The eleven calls, numbered as include/sisalshed.h has them. All that a call answers is written, and the checksums of the memory that it was
+// lent to write.
 use crate::buffers::marked_bytes;
 use crate::buffers::marked_values;
-use crate::numbers::Arguments;
+use crate::numbers::Given;
 use libc::STDOUT_FILENO;
 use sisalshed::CAnswer;
 use sisalshed::CBody;
@@ -21,109 +21,89 @@ use sisalshed::sisalshed_write_list;
 use tables::bytes_sum;
 use tables::lesser;
 use tables::values_sum;
-use text::begins;
 
-fn number(word: &[u8], value: u64) {
-    io::write_all(STDOUT_FILENO, word);
-    io::print_decimal(STDOUT_FILENO, value);
+// A number, behind a blank.
+fn show(number: u64) {
+    io::write_all(STDOUT_FILENO, b" ");
+    io::print_decimal(STDOUT_FILENO, number);
 }
 
-fn answer(value: CAnswer) {
-    number(b" answer=", value.number as u64);
-    number(b",", value.length as u64);
-}
-
-// The calls of blocks and lists that are lent nothing to write.
-pub(crate) fn run_asking(head: &[u8], given: Arguments, values: &[u32]) {
+// The calls that answer a number and a length. Some write bytes, some values, some nothing; all are lent both.
+fn call(
+    given: Given,
+    values: &[u32],
+    bytes: &[u8],
+    out_bytes: &mut [u8],
+    out_values: &mut [u32],
+) -> CAnswer {
+    let number = given.call;
     let lanes = given.lanes;
     let kind = given.kind;
     let first = given.first;
-    if begins(b"compressed_block_size ", head) {
-        answer(sisalshed_compressed_block_size(lanes, given.width()));
-    }
-    if begins(b"num_bits ", head) {
-        answer(sisalshed_num_bits(lanes, kind, first, values));
-    }
-    if begins(b"measure_list ", head) {
-        answer(sisalshed_measure_list(lanes, kind, first, values));
-    }
-}
-
-fn write_bytes(head: &[u8], given: Arguments, values: &[u32], output: &mut [u8]) -> CAnswer {
-    let lanes = given.lanes;
-    let kind = given.kind;
-    let first = given.first;
-    if begins(b"compress ", head) {
-        return sisalshed_compress(lanes, kind, first, values, output, given.width());
-    }
-    if begins(b"write_list ", head) {
-        return sisalshed_write_list(lanes, kind, first, values, output);
-    }
-    sisalshed_write_file(lanes, kind, first, values, output)
-}
-
-fn show_bytes(head: &[u8], given: Arguments, values: &[u32], output: &mut [u8]) {
-    answer(write_bytes(head, given, values, output));
-    number(b",", bytes_sum(output) as u64);
-}
-
-// The calls that write bytes, with the room that the line gives.
-pub(crate) fn run_writing(head: &[u8], given: Arguments, values: &[u32]) {
-    if begins(b"compress ", head) || begins(b"write_", head) {
-        let mut output = marked_bytes();
-        let end = lesser(given.room, 20000);
-        show_bytes(head, given, values, &mut output[0..end]);
+    let width = given.width;
+    let count = given.count;
+    match number {
+        1 => sisalshed_compressed_block_size(lanes, width),
+        2 => sisalshed_compress(lanes, kind, first, values, out_bytes, width),
+        3 => sisalshed_decompress(lanes, kind, first, bytes, out_values, width),
+        4 => sisalshed_num_bits(lanes, kind, first, values),
+        5 => sisalshed_measure_list(lanes, kind, first, values),
+        6 => sisalshed_write_list(lanes, kind, first, values, out_bytes),
+        7 => sisalshed_read_list(lanes, kind, first, count, bytes, out_values),
+        10 => sisalshed_read_file(bytes, out_values),
+        _ => sisalshed_write_file(lanes, kind, first, values, out_bytes),
     }
 }
 
-fn write_values(head: &[u8], given: Arguments, bytes: &[u8], output: &mut [u32]) -> CAnswer {
-    let lanes = given.lanes;
-    let kind = given.kind;
-    let first = given.first;
-    if begins(b"decompress ", head) {
-        return sisalshed_decompress(lanes, kind, first, bytes, output, given.width());
-    }
-    if begins(b"read_list ", head) {
-        return sisalshed_read_list(lanes, kind, first, given.count(), bytes, output);
-    }
-    sisalshed_read_file(bytes, output)
+fn show_call(
+    given: Given,
+    values: &[u32],
+    bytes: &[u8],
+    out_bytes: &mut [u8],
+    out_values: &mut [u32],
+) {
+    let answer = call(given, values, bytes, out_bytes, out_values);
+    show(answer.number as u64);
+    show(answer.length as u64);
+    show(bytes_sum(out_bytes) as u64);
+    show(values_sum(out_values) as u64);
 }
 
-fn show_values(head: &[u8], given: Arguments, bytes: &[u8], output: &mut [u32]) {
-    answer(write_values(head, given, bytes, output));
-    number(b",", values_sum(output) as u64);
+// A call with so much room for bytes and for values, full of marks.
+fn lend(given: Given, values: &[u32], bytes: &[u8]) {
+    let mut out_bytes = marked_bytes();
+    let mut out_values = marked_values();
+    let bytes_end = lesser(given.room, 20000);
+    let values_end = lesser(given.room, 4104);
+    show_call(
+        given,
+        values,
+        bytes,
+        &mut out_bytes[0..bytes_end],
+        &mut out_values[0..values_end],
+    );
 }
 
-// The calls that write values, with the room that the line gives.
-pub(crate) fn run_reading(head: &[u8], given: Arguments, bytes: &[u8]) {
-    if begins(b"decompress ", head) || begins(b"read_", head) {
-        let mut output = marked_values();
-        let end = lesser(given.room, 4104);
-        show_values(head, given, bytes, &mut output[0..end]);
-    }
+fn show_header(answer: CHeader) {
+    show(answer.number as u64);
+    show(answer.lanes as u64);
+    show(answer.kind as u64);
+    show(answer.first as u64);
+    show(answer.count as u64);
+    show(answer.bytes as u64);
 }
 
-fn show_header(value: CHeader) {
-    number(b" header=", value.number as u64);
-    number(b",", value.lanes as u64);
-    number(b",", value.kind as u64);
-    number(b",", value.first as u64);
-    number(b",", value.count as u64);
-    number(b",", value.bytes as u64);
+fn show_body(answer: CBody) {
+    show(answer.number as u64);
+    show(answer.start as u64);
+    show(answer.length as u64);
 }
 
-fn show_body(value: CBody) {
-    number(b" body=", value.number as u64);
-    number(b",", value.start as u64);
-    number(b",", value.length as u64);
-}
-
-// The calls on a file that are lent nothing to write.
-pub(crate) fn run_opening(head: &[u8], bytes: &[u8]) {
-    if begins(b"header ", head) {
-        show_header(sisalshed_header(bytes));
-    }
-    if begins(b"body ", head) {
-        show_body(sisalshed_body(bytes));
+pub(crate) fn run_call(given: Given, values: &[u32], bytes: &[u8]) {
+    let number = given.call;
+    match number {
+        8 => show_header(sisalshed_header(bytes)),
+        9 => show_body(sisalshed_body(bytes)),
+        _ => lend(given, values, bytes),
     }
 }

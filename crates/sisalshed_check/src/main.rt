@@ -1,19 +1,16 @@
-// Runs the calls for C on the table of cases on standard input. A line is the call's name without `sisalshed_`, a name of the case, and the
-// arguments: lanes, kind, first, then the width or the count, then how much room the output has, with a `-` where the call takes none.
-// Behind a `:` is the input, values in decimal or bytes in hex. The line is written without its input, and behind it all that the call
-// answers. checks/sisalshed.py makes the table, and works out the same answers from document 01.
-use buffers::bytes_room;
-use buffers::first_values;
-use buffers::values_room;
-use calls::run_asking;
-use calls::run_opening;
-use calls::run_reading;
-use calls::run_writing;
+// Runs the calls for C on the table of cases on standard input. A line has the call's name without `sisalshed_`, the name of the case, and
+// six numbers: the call's, lanes, kind, first, the width or the count, and how much room the output has; 0 where the call takes none. Behind
+// a `:` is the input: bytes in hex, or values, each behind a blank. The line is written without the input, and behind it all that the call
+// answers; a line without `:` is only written. checks/sisalshed.py makes the table, and works out the same answers from document 01.
+use buffers::marked_bytes;
+use buffers::marked_values;
+use calls::run_call;
 use libc::STDIN_FILENO;
 use libc::STDOUT_FILENO;
-use numbers::arguments_of;
+use numbers::given_in;
 use numbers::put_values;
 use tables::decode;
+use tables::lesser;
 use tables::place_of;
 ghost use mathlib.Core.Path.{_≡_};
 ghost use lib.ListN.{length};
@@ -22,38 +19,24 @@ mod buffers;
 mod calls;
 mod numbers;
 
-// The calls on values.
-fn run_on_values(head: &[u8], input: &[u8]) {
-    let mut all = values_room();
-    let count = put_values(input, &mut all);
-    let values = first_values(&all, count);
-    run_asking(head, arguments_of(head), values);
-    run_writing(head, arguments_of(head), values);
-}
-
-// The calls on bytes.
-fn run_on_bytes(head: &[u8], input: &[u8]) {
-    let mut all = bytes_room();
-    let size = decode(input, &mut all);
-    run_reading(head, arguments_of(head), &all[..size]);
-    run_opening(head, &all[..size]);
-}
-
-// What stands behind the `:` and the blank after it, where there is anything.
-fn behind(text: &[u8]) -> &[u8] {
-    if text.len() < 2 {
-        return &text[..0];
-    }
-    &text[2..]
+// The input is taken as bytes and as values; a call looks at one of the two.
+fn run_case(head: &[u8], input: &[u8]) {
+    let mut bytes = marked_bytes();
+    let size = decode(input, &mut bytes);
+    let mut room = marked_values();
+    let count = put_values(input, &mut room);
+    let values: &[u32] = &room;
+    let end = lesser(count, values.len());
+    io::write_all(STDOUT_FILENO, b":");
+    run_call(given_in(head), &values[0..end], &bytes[..size]);
 }
 
 fn run_line(line: &[u8]) {
     let end = place_of(b':', line);
-    let head = &line[..end];
-    let input = &line[end..];
-    io::write_all(STDOUT_FILENO, head);
-    run_on_values(head, input);
-    run_on_bytes(head, behind(input));
+    io::write_all(STDOUT_FILENO, &line[..end]);
+    if end < line.len() {
+        run_case(&line[..end], &line[end + 1..]);
+    }
     io::write_all(STDOUT_FILENO, b"\n");
 }
 

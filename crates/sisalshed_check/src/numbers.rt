@@ -1,4 +1,4 @@
-// The numbers of a line: the arguments of the call, and the values of its input.
+// The numbers of a line: what the call is given, and the values of its input.
 use std::num::wrapping_add_u64;
 
 // A number with one digit more, modulo 2 to the power of 64. (A letter of a name is taken for some digit.)
@@ -6,28 +6,9 @@ fn with_digit(number: u64, byte: u8) -> u64 {
     wrapping_add_u64(number % 1844674407370955162 * 10, byte as u64 % 48)
 }
 
-// The number as a `u32`, which is all that the table gives where one is taken.
+// The number as a `u32`. Where one is taken, the table gives no other.
 fn narrow(number: u64) -> u32 {
     (number % 4294967296) as u32
-}
-
-// What a line gives to a call: the width or the count is its number, and its output has so much room.
-pub(crate) struct Arguments {
-    pub(crate) lanes: usize,
-    pub(crate) kind: u32,
-    pub(crate) first: u32,
-    pub(crate) number: u64,
-    pub(crate) room: usize,
-}
-
-impl Arguments {
-    pub(crate) fn width(self) -> u32 {
-        narrow(self.number)
-    }
-
-    pub(crate) fn count(self) -> usize {
-        self.number as usize
-    }
 }
 
 // The words of a text as numbers, and the place of the last.
@@ -62,15 +43,28 @@ fn words_of(text: &[u8]) -> [u64; 8] {
     words.numbers
 }
 
-// The arguments behind the call's name and the case's.
-pub(crate) fn arguments_of(head: &[u8]) -> Arguments {
+// Which call, and its arguments. The width and the count are one number, since no call takes both; room is that of its output.
+pub(crate) struct Given {
+    pub(crate) call: u64,
+    pub(crate) lanes: usize,
+    pub(crate) kind: u32,
+    pub(crate) first: u32,
+    pub(crate) width: u32,
+    pub(crate) count: usize,
+    pub(crate) room: usize,
+}
+
+// What stands behind the names of the call and of the case.
+pub(crate) fn given_in(head: &[u8]) -> Given {
     let numbers = words_of(head);
-    Arguments {
-        lanes: numbers[2] as usize,
-        kind: narrow(numbers[3]),
-        first: narrow(numbers[4]),
-        number: numbers[5],
-        room: numbers[6] as usize,
+    Given {
+        call: numbers[2],
+        lanes: numbers[3] as usize,
+        kind: narrow(numbers[4]),
+        first: narrow(numbers[5]),
+        width: narrow(numbers[6]),
+        count: numbers[6] as usize,
+        room: numbers[7] as usize,
     }
 }
 

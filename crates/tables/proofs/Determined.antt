@@ -1,7 +1,7 @@
 -- For each public function of the crate: it asks nothing of its caller; two answers that its contract allows for one input are equal, and so
 -- is what it leaves in the memory that it was lent to write.
-use mathlib.Core.Path.{sym, _∙_}
-use Rattle.answers.proofs.Contracts.{AsksNothing, AnswerDetermined, Determined}
+use mathlib.Core.Path.{refl, sym, _∙_}
+use Rattle.answers.proofs.Contracts.{AsksNothing, AnswerDetermined, SeenDetermined, Determined}
 use Rattle.tables.proofs.lesser.Reads as lesser
 use Rattle.tables.proofs.lesser.Kinds as lesser-kinds
 use Rattle.tables.proofs.bytes_sum.Reads as bytes-sum
@@ -12,6 +12,58 @@ use Rattle.tables.proofs.decode.Reads as decode
 use Rattle.tables.proofs.decode.Kinds as decode-kinds
 use Rattle.tables.proofs.place_of.Reads as place-of
 use Rattle.tables.proofs.place_of.Kinds as place-of-kinds
+use Rattle.tables.proofs.buffers.table_room.Reads as table-room
+use Rattle.tables.proofs.buffers.table_room.Kinds as table-room-kinds
+use Rattle.tables.proofs.buffers.marked_bytes.Reads as marked-bytes
+use Rattle.tables.proofs.buffers.marked_bytes.Kinds as marked-bytes-kinds
+use Rattle.tables.proofs.buffers.marked_values.Reads as marked-values
+use Rattle.tables.proofs.buffers.marked_values.Kinds as marked-values-kinds
+use Rattle.tables.proofs.buffers.first_bytes.Reads as first-bytes
+use Rattle.tables.proofs.buffers.first_bytes.Kinds as first-bytes-kinds
+use Rattle.tables.proofs.buffers.first_values.Reads as first-values
+use Rattle.tables.proofs.buffers.first_values.Kinds as first-values-kinds
+use Rattle.tables.proofs.buffers.same_bytes.Reads as same-bytes
+use Rattle.tables.proofs.buffers.same_bytes.Kinds as same-bytes-kinds
+use Rattle.tables.proofs.buffers.same_values.Reads as same-values
+use Rattle.tables.proofs.buffers.same_values.Kinds as same-values-kinds
+use Rattle.tables.proofs.wide.Reads as wide
+use Rattle.tables.proofs.wide.Kinds as wide-kinds
+use Rattle.tables.proofs.noise_after.Reads as noise-after
+use Rattle.tables.proofs.noise_after.Kinds as noise-after-kinds
+use Rattle.tables.proofs.line.number.Reads as line-number
+use Rattle.tables.proofs.line.number.Kinds as line-number-kinds
+use Rattle.tables.proofs.line.numbers.Reads as numbers
+use Rattle.tables.proofs.line.numbers.Kinds as numbers-kinds
+use Rattle.tables.proofs.line.answer.Reads as answer
+use Rattle.tables.proofs.line.answer.Kinds as answer-kinds
+use Rattle.tables.proofs.line.answer_and_sum.Reads as answer-and-sum
+use Rattle.tables.proofs.line.answer_and_sum.Kinds as answer-and-sum-kinds
+use Rattle.tables.proofs.line.list.Reads as list-call
+use Rattle.tables.proofs.line.list.Kinds as list-call-kinds
+use Rattle.tables.proofs.line.hex.Reads as hex
+use Rattle.tables.proofs.line.hex.Kinds as hex-kinds
+use Rattle.tables.proofs.line.end.Reads as end-call
+use Rattle.tables.proofs.line.end.Kinds as end-call-kinds
+use Rattle.tables.proofs.words.letter_at.Reads as letter-at
+use Rattle.tables.proofs.words.letter_at.Kinds as letter-at-kinds
+use Rattle.tables.proofs.words.before.Reads as before-call
+use Rattle.tables.proofs.words.before.Kinds as before-call-kinds
+use Rattle.tables.proofs.words.behind.Reads as behind
+use Rattle.tables.proofs.words.behind.Kinds as behind-kinds
+use Rattle.tables.proofs.words.value.Reads as value-call
+use Rattle.tables.proofs.words.value.Kinds as value-call-kinds
+use Rattle.tables.proofs.words.decimal.Reads as decimal
+use Rattle.tables.proofs.words.decimal.Kinds as decimal-kinds
+use Rattle.tables.proofs.words.number.Reads as words-number
+use Rattle.tables.proofs.words.number.Kinds as words-number-kinds
+use Rattle.tables.proofs.words.second.Reads as second
+use Rattle.tables.proofs.words.second.Kinds as second-kinds
+use Rattle.tables.proofs.words.narrow.Reads as narrow
+use Rattle.tables.proofs.words.narrow.Kinds as narrow-kinds
+use Rattle.tables.proofs.words.mode.Reads as mode-call
+use Rattle.tables.proofs.words.mode.Kinds as mode-call-kinds
+use Rattle.tables.proofs.words.put_values.Reads as put-values
+use Rattle.tables.proofs.words.put_values.Kinds as put-values-kinds
 
 lesser-asks-nothing : AsksNothing lesser-kinds.ps lesser.Pre
 lesser-asks-nothing κs a = tt
@@ -42,3 +94,159 @@ place-of-asks-nothing κs a = tt
 
 place-of-determined : AnswerDetermined place-of-kinds.ps place-of-kinds.r place-of.Post
 place-of-determined κs a z z′ e e′ p q = p .0 ∙ sym (q .0)
+
+table-room-asks-nothing : AsksNothing table-room-kinds.ps table-room.Pre
+table-room-asks-nothing κs a = tt
+
+table-room-determined : AnswerDetermined table-room-kinds.ps table-room-kinds.r table-room.Post
+table-room-determined κs a z z′ e e′ p q = p .0 ∙ sym (q .0)
+
+marked-bytes-asks-nothing : AsksNothing marked-bytes-kinds.ps marked-bytes.Pre
+marked-bytes-asks-nothing κs a = tt
+
+marked-bytes-determined : AnswerDetermined marked-bytes-kinds.ps marked-bytes-kinds.r marked-bytes.Post
+marked-bytes-determined κs a z z′ e e′ p q = p .0 ∙ sym (q .0)
+
+marked-values-asks-nothing : AsksNothing marked-values-kinds.ps marked-values.Pre
+marked-values-asks-nothing κs a = tt
+
+marked-values-determined : AnswerDetermined marked-values-kinds.ps marked-values-kinds.r marked-values.Post
+marked-values-determined κs a z z′ e e′ p q = p .0 ∙ sym (q .0)
+
+first-bytes-asks-nothing : AsksNothing first-bytes-kinds.ps first-bytes.Pre
+first-bytes-asks-nothing κs a = tt
+
+first-bytes-determined : SeenDetermined first-bytes-kinds.ps first-bytes-kinds.r first-bytes.Post (λ κs z. z .now)
+first-bytes-determined κs a z z′ e e′ p q = p ∙ sym q
+
+first-values-asks-nothing : AsksNothing first-values-kinds.ps first-values.Pre
+first-values-asks-nothing κs a = tt
+
+first-values-determined : SeenDetermined first-values-kinds.ps first-values-kinds.r first-values.Post (λ κs z. z .now)
+first-values-determined κs a z z′ e e′ p q = p ∙ sym q
+
+same-bytes-asks-nothing : AsksNothing same-bytes-kinds.ps same-bytes.Pre
+same-bytes-asks-nothing κs a = tt
+
+same-bytes-determined : AnswerDetermined same-bytes-kinds.ps same-bytes-kinds.r same-bytes.Post
+same-bytes-determined κs a z z′ e e′ p q = p ∙ sym q
+
+same-values-asks-nothing : AsksNothing same-values-kinds.ps same-values.Pre
+same-values-asks-nothing κs a = tt
+
+same-values-determined : AnswerDetermined same-values-kinds.ps same-values-kinds.r same-values.Post
+same-values-determined κs a z z′ e e′ p q = p ∙ sym q
+
+wide-asks-nothing : AsksNothing wide-kinds.ps wide.Pre
+wide-asks-nothing κs a = tt
+
+wide-determined : AnswerDetermined wide-kinds.ps wide-kinds.r wide.Post
+wide-determined κs a z z′ e e′ p q = p .0 ∙ sym (q .0)
+
+noise-after-asks-nothing : AsksNothing noise-after-kinds.ps noise-after.Pre
+noise-after-asks-nothing κs a = tt
+
+noise-after-determined : AnswerDetermined noise-after-kinds.ps noise-after-kinds.r noise-after.Post
+noise-after-determined κs a z z′ e e′ p q = p ∙ sym q
+
+line-number-asks-nothing : AsksNothing line-number-kinds.ps line-number.Pre
+line-number-asks-nothing κs a = tt
+
+line-number-determined : AnswerDetermined line-number-kinds.ps line-number-kinds.r line-number.Post
+line-number-determined κs a z z′ e e′ p q = refl
+
+numbers-asks-nothing : AsksNothing numbers-kinds.ps numbers.Pre
+numbers-asks-nothing κs a = tt
+
+numbers-determined : AnswerDetermined numbers-kinds.ps numbers-kinds.r numbers.Post
+numbers-determined κs a z z′ e e′ p q = refl
+
+answer-asks-nothing : AsksNothing answer-kinds.ps answer.Pre
+answer-asks-nothing κs a = tt
+
+answer-determined : AnswerDetermined answer-kinds.ps answer-kinds.r answer.Post
+answer-determined κs a z z′ e e′ p q = refl
+
+answer-and-sum-asks-nothing : AsksNothing answer-and-sum-kinds.ps answer-and-sum.Pre
+answer-and-sum-asks-nothing κs a = tt
+
+answer-and-sum-determined : AnswerDetermined answer-and-sum-kinds.ps answer-and-sum-kinds.r answer-and-sum.Post
+answer-and-sum-determined κs a z z′ e e′ p q = refl
+
+list-asks-nothing : AsksNothing list-call-kinds.ps list-call.Pre
+list-asks-nothing κs a = tt
+
+list-determined : AnswerDetermined list-call-kinds.ps list-call-kinds.r list-call.Post
+list-determined κs a z z′ e e′ p q = refl
+
+hex-asks-nothing : AsksNothing hex-kinds.ps hex.Pre
+hex-asks-nothing κs a = tt
+
+hex-determined : AnswerDetermined hex-kinds.ps hex-kinds.r hex.Post
+hex-determined κs a z z′ e e′ p q = refl
+
+end-asks-nothing : AsksNothing end-call-kinds.ps end-call.Pre
+end-asks-nothing κs a = tt
+
+end-determined : AnswerDetermined end-call-kinds.ps end-call-kinds.r end-call.Post
+end-determined κs a z z′ e e′ p q = refl
+
+letter-at-asks-nothing : AsksNothing letter-at-kinds.ps letter-at.Pre
+letter-at-asks-nothing κs a = tt
+
+letter-at-determined : AnswerDetermined letter-at-kinds.ps letter-at-kinds.r letter-at.Post
+letter-at-determined κs a z z′ e e′ p q = p ∙ sym q
+
+before-asks-nothing : AsksNothing before-call-kinds.ps before-call.Pre
+before-asks-nothing κs a = tt
+
+before-determined : SeenDetermined before-call-kinds.ps before-call-kinds.r before-call.Post (λ κs z. z .now)
+before-determined κs a z z′ e e′ p q = p ∙ sym q
+
+behind-asks-nothing : AsksNothing behind-kinds.ps behind.Pre
+behind-asks-nothing κs a = tt
+
+behind-determined : SeenDetermined behind-kinds.ps behind-kinds.r behind.Post (λ κs z. z .now)
+behind-determined κs a z z′ e e′ p q = p .0 ∙ sym (q .0)
+
+value-asks-nothing : AsksNothing value-call-kinds.ps value-call.Pre
+value-asks-nothing κs a = tt
+
+value-determined : SeenDetermined value-call-kinds.ps value-call-kinds.r value-call.Post (λ κs z. z .now)
+value-determined κs a z z′ e e′ p q = p ∙ sym q
+
+decimal-asks-nothing : AsksNothing decimal-kinds.ps decimal.Pre
+decimal-asks-nothing κs a = tt
+
+decimal-determined : AnswerDetermined decimal-kinds.ps decimal-kinds.r decimal.Post
+decimal-determined κs a z z′ e e′ p q = p ∙ sym q
+
+words-number-asks-nothing : AsksNothing words-number-kinds.ps words-number.Pre
+words-number-asks-nothing κs a = tt
+
+words-number-determined : AnswerDetermined words-number-kinds.ps words-number-kinds.r words-number.Post
+words-number-determined κs a z z′ e e′ p q = p ∙ sym q
+
+second-asks-nothing : AsksNothing second-kinds.ps second.Pre
+second-asks-nothing κs a = tt
+
+second-determined : AnswerDetermined second-kinds.ps second-kinds.r second.Post
+second-determined κs a z z′ e e′ p q = p ∙ sym q
+
+narrow-asks-nothing : AsksNothing narrow-kinds.ps narrow.Pre
+narrow-asks-nothing κs a = tt
+
+narrow-determined : AnswerDetermined narrow-kinds.ps narrow-kinds.r narrow.Post
+narrow-determined κs a z z′ e e′ p q = p ∙ sym q
+
+mode-asks-nothing : AsksNothing mode-call-kinds.ps mode-call.Pre
+mode-asks-nothing κs a = tt
+
+mode-determined : AnswerDetermined mode-call-kinds.ps mode-call-kinds.r mode-call.Post
+mode-determined κs a z z′ e e′ p q = p ∙ sym q
+
+put-values-asks-nothing : AsksNothing put-values-kinds.ps put-values.Pre
+put-values-asks-nothing κs a = tt
+
+put-values-determined : Determined put-values-kinds.ps put-values-kinds.r put-values.Post (λ κs e. e .1 .1 .0 .now)
+put-values-determined κs a z z′ e e′ p q = (refl, p ∙ sym q)

@@ -19,7 +19,7 @@ use Rattle.text.specs.Text.{word, decimal, line, begins, numberLine}
 use Rattle.files.specs.declared.finding.ModeLines.{ModeLines}
 use Rattle.files.specs.declared.finding.SizeLines.{SizeLines}
 use Rattle.files.specs.declared.heading.Header.{Header}
-use Rattle.files.specs.declared.Packing.{Packing}
+use Rattle.files.specs.declared.SettingsFound.{SettingsFound}
 use Rattle.files.specs.declared.Found.{Found}
 use Rattle.files.specs.Header.{modeWord, firstText}
 
@@ -63,10 +63,10 @@ modeLinesIn bs =
     (record { mode = Plain; length = 0 }))))
 
 -- the lanes line, and those behind it
-abbrev pub noSettings : Packing
+abbrev pub noSettings : SettingsFound
 noSettings = record { refusal = BadHeader; lanes = 0; mode = Plain; length = 0 }
 
-unfoldable pub settingsIn : List ℕ → Packing
+unfoldable pub settingsIn : List ℕ → SettingsFound
 settingsIn bs =
     let l = numberLine (word "lanes=") bs in
     let m = modeLinesIn (drop (l .length) bs) in

@@ -9,7 +9,7 @@ use Rattle.answers.proofs.Guards.{denied, granted}
 use Rattle.answers.specs.declared.Answer.{Answer}
 use Rattle.answers.specs.Refusals.{accepted}
 use Rattle.bodies.specs.List.{most}
-use Rattle.files.specs.Calls.{listIn, readRefusalOf}
+use Rattle.files.specs.Calls.{listIn, readFileRefusal}
 use Rattle.programs.specs.Lines.{valueLines}
 use Rattle.programs.proofs.Outcomes.{out-is, file-too-long, file-refused, file-accepted, list-few, list-told}
 use borrow.Author.Needs.{needs}
@@ -40,7 +40,7 @@ start c = c .before .before .before .before .before .before .before .before
 abbrev was : tie.Else2 → tie.After-read
 was c = c .before .before .before
 
-good : (c : tie.Else2) → accepted (readRefusalOf (start c .args .file .now) most) ≡ true
+good : (c : tie.Else2) → accepted (readFileRefusal (start c .args .file .now) most) ≡ true
 good c =
     let i = c .before in
     ap (λ (a : Answer). accepted (a .refusal)) (sym (i .before .before .read .ensures .0)) ∙ granted (i .is-accepted .ensures) (c .if2 .left)

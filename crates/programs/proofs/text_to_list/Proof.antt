@@ -8,7 +8,7 @@ use lib.Seq.{length-take-le}
 use Rattle.answers.proofs.Guards.{denied, granted}
 use Rattle.answers.specs.Refusals.{accepted}
 use Rattle.lists.specs.Calls.{measureRefusal}
-use Rattle.files.specs.declared.Packing.{Packing}
+use Rattle.files.specs.declared.SettingsFound.{SettingsFound}
 use Rattle.files.specs.Opening.{isSettings}
 use Rattle.files.specs.kernel.Finding.{settingsIn}
 use Rattle.files.specs.Calls.{fileFor}
@@ -28,7 +28,7 @@ returns c =
 
 -- what the settings told
 said : (i : tie.After-is-accepted) → i .is-accepted .result ≡ isSettings (i .before .before .before .before .before .args .text .now)
-said i = i .is-accepted .ensures ∙ ap (λ (p : Packing). accepted (p .refusal)) (i .before .settings .ensures)
+said i = i .is-accepted .ensures ∙ ap (λ (p : SettingsFound). accepted (p .refusal)) (i .before .settings .ensures)
 
 returns-2 : tie.Need-returns-2
 returns-2 c =
@@ -38,7 +38,7 @@ returns-2 c =
     let g = i .before in
     let e = g .before in
     let s = e .before .before .before in
-    out-is (ap (λ (p : Packing). refusedLine (p .refusal)) (g .settings .ensures) ∙ no-settings (s .args .text .now) (e .if1 .left) (denied (said i) (t .if2 .taken))) (s .args .out .now) (r .refuse2 .ensures)
+    out-is (ap (λ (p : SettingsFound). refusedLine (p .refusal)) (g .settings .ensures) ∙ no-settings (s .args .text .now) (e .if1 .left) (denied (said i) (t .if2 .taken))) (s .args .out .now) (r .refuse2 .ensures)
 
 abbrev start : tie.Else2 → tie.Start
 start c = c .before .before .before .before .before .before
@@ -59,7 +59,7 @@ part-read-values-start c = within c
 told : (c : tie.After-read-values) → LinesTold (start (c .before .before .before) .args .text .now) (replicate 4096 0) (c .read-values .result) (c .read-values .last .1 .0)
 told c =
     let e = c .before .before .before in
-    lines-told (start e .args .text .now) (replicate 4096 0) _ (ap (λ (p : Packing). p .length) (e .before .before .settings .ensures)) (c .read-values .result) (c .read-values .last .1 .0) (c .read-values .ensures)
+    lines-told (start e .args .text .now) (replicate 4096 0) _ (ap (λ (p : SettingsFound). p .length) (e .before .before .settings .ensures)) (c .read-values .result) (c .read-values .last .1 .0) (c .read-values .ensures)
 
 returns-3 : tie.Need-returns-3
 returns-3 c =

@@ -13,13 +13,12 @@ import sys
 import blocks
 import files
 import lists
-from files import BYTE_MARK, BYTES, VALUE_MARK, VALUES, file_of, header_of, header_text, marked, mode_numbers
+from files import BYTE_MARK, BYTES, VALUE_MARK, VALUES, file_of, header_of, header_text
 from lists import BOUND, LANES, LARGEST, NONE, PLAIN, body_of, payload_of, sorted_from, strict_from
 
 # ---- The calls, as include/sisalshed.h has them ----
 #
-# Each gives the numbers that the program writes: all that is answered, and the checksums of the memory that was lent, so many bytes and so
-# many values, full of marks before.
+# Each gives the word that the program writes: all that is answered, and the checksum of the memory that was lent, full of marks before.
 
 
 def mode_of(kind, first):
@@ -33,89 +32,82 @@ def in_mode(kind, first, call):
     return (12, 0, []) if mode is None else call(mode)
 
 
-def answered(number, length, bytes_there=(), values_there=(), room=0):
-    return number, length, marked(bytes_there, BYTE_MARK, min(room, BYTES)), marked(values_there, VALUE_MARK, min(room, VALUES))
+def answer(answered):
+    return f"answer={answered[0]},{answered[1]}"
 
 
-def bytes_left(answer, room):
-    return answered(*answer, (), room)
-
-
-def values_left(answer, room):
-    return answered(*answer[:2], (), answer[2], room)
+def answer_with(answered, mark, room):
+    return "answer=" + files.answered(answered, mark, room)
 
 
 def compressed_block_size(lanes, width):
-    return answered(*blocks.size(lanes, width))
+    return answer(blocks.size(lanes, width))
 
 
 def compress(lanes, kind, first, width, room, values):
-    return bytes_left(in_mode(kind, first, lambda mode: blocks.pack(lanes, mode, values, room, width)), room)
+    return answer_with(in_mode(kind, first, lambda mode: blocks.pack(lanes, mode, values, room, width)), BYTE_MARK, room)
 
 
 def decompress(lanes, kind, first, width, room, data):
-    return values_left(in_mode(kind, first, lambda mode: blocks.unpack(lanes, mode, data, room, width)), room)
+    return answer_with(in_mode(kind, first, lambda mode: blocks.unpack(lanes, mode, data, room, width)), VALUE_MARK, room)
 
 
 def num_bits(lanes, kind, first, values):
-    return answered(*in_mode(kind, first, lambda mode: blocks.least(lanes, mode, values))[:2])
+    return answer(in_mode(kind, first, lambda mode: blocks.least(lanes, mode, values)))
 
 
 def measure_list(lanes, kind, first, values):
     """What writing answers with enough room."""
-    return answered(*in_mode(kind, first, lambda mode: lists.write(lanes, mode, values, BOUND))[:2])
+    return answer(in_mode(kind, first, lambda mode: lists.write(lanes, mode, values, BOUND)))
 
 
 def write_list(lanes, kind, first, room, values):
-    return bytes_left(in_mode(kind, first, lambda mode: lists.write(lanes, mode, values, room)), room)
+    return answer_with(in_mode(kind, first, lambda mode: lists.write(lanes, mode, values, room)), BYTE_MARK, room)
 
 
 def read_list(lanes, kind, first, count, room, data):
-    return values_left(in_mode(kind, first, lambda mode: lists.read(lanes, mode, count, data, room)), room)
+    return answer_with(in_mode(kind, first, lambda mode: lists.read(lanes, mode, count, data, room)), VALUE_MARK, room)
 
 
 def header(data):
     found = header_of(data)
     if found is None:
-        return 12, 0, 0, 0, 0, 0
+        return "header=12,0,0,0,0,0"
     lanes, mode, count, size, _ = found
-    return 0, lanes, *mode_numbers(mode).split(","), count, size
+    return f"header=0,{lanes},{files.mode_numbers(mode)},{count},{size}"
 
 
 def body(data):
     """ "From after the empty line to the end." """
     found = header_of(data)
-    return (12, 0, 0) if found is None else (0, len(data) - len(found[4]), len(found[4]))
+    return "body=12,0,0" if found is None else f"body=0,{len(data) - len(found[4])},{len(found[4])}"
 
 
 def read_file(room, data):
-    return values_left(files.read_file(data, room), room)
+    return answer_with(files.read_file(data, room), VALUE_MARK, room)
 
 
 def write_file(lanes, kind, first, room, values):
-    return bytes_left(in_mode(kind, first, lambda mode: files.write_file(lanes, mode, values, room)), room)
+    return answer_with(in_mode(kind, first, lambda mode: files.write_file(lanes, mode, values, room)), BYTE_MARK, room)
 
-
-CALLS = (compressed_block_size, compress, decompress, num_bits, measure_list, write_list, read_list, header, body, read_file, write_file)
 
 # ---- A case as a line ----
 #
-# The names of the call and of the case, and six numbers: the call's, lanes, kind, first, the width or the count, and the room; 0 where the
-# call takes none. Behind a `:` is the input.
+# The call, a name, and the arguments as words, whose first letters tell them apart. Behind a `:` is the input.
 
 
 def head_of(call, name, given):
-    numbers = [CALLS.index(call) + 1] + [given.get(word, 0) for word in ("lanes", "kind", "first")]
-    numbers += [given.get("width", given.get("count", 0)), given.get("room", 0)]
-    return " ".join([call.__name__, name] + [str(number) for number in numbers]) + ":"
+    words = [f"{word}={given[word]}" for word in ("lanes", "kind", "first", "width", "count", "room") if word in given]
+    return " ".join([call.__name__, name] + words)
 
 
 def input_of(given):
-    """Bytes in hex; or values, each behind a blank, `3*7` for 7 7 7."""
+    """Bytes in hex; or how many values, and the first of them up to the last that is not the one before, which the others are too."""
     if "data" in given:
-        return given["data"].hex()
-    runs = [(value, len(list(run))) for value, run in itertools.groupby(given.get("values", []))]
-    return "".join(f" {times}*{value}" if times > 1 else f" {value}" for value, times in runs)
+        return f" data={bytes(given['data']).hex()}"
+    values = given.get("values", [])
+    shown = 1 + max((k for k in range(1, len(values)) if values[k] != values[k - 1]), default=0)
+    return f" values={len(values)} given={','.join(str(value) for value in values[:shown])} step=0"
 
 
 # ---- The table of cases: a call, a name, and what it is given ----
@@ -129,8 +121,8 @@ NO_KINDS = (4, 5, 255, LARGEST)
 
 
 def sound(call, lanes=1, kind=1, first=5, entries=(0, 1, 3), n=2):
-    """What a call is given for a block of these entries and then zeros, or for a list of these entries alone, with just enough room."""
-    mode = mode_of(kind, first)
+    """What a call is given for these entries and then zeros, a list's being three, with just enough room."""
+    mode = mode_of(kind, first) or PLAIN
     block_entries = list(entries) + [0] * (32 * lanes - len(entries))
     block = blocks.values_of(mode, block_entries)
     values = block[:len(entries)]
@@ -177,7 +169,7 @@ def edges():
 
 
 def spread():
-    """Each lanes and kind, with entries of four bits."""
+    """Each lanes and kind, with entries of four bits"""
     for lanes in LANES:
         noise = [number >> 28 for number in lists.noise(lanes, 32 * lanes)]
         for kind in range(4):
@@ -188,7 +180,7 @@ def spread():
 
 
 def kinds():
-    """Each kind with first numbers at their limits, which are ignored beside 0 and 2."""
+    """Each kind with first numbers at their limits, which are ignored beside 0 and 2"""
     for kind in range(4):
         for first in FIRSTS:
             for call in MODE_CALLS:
@@ -198,52 +190,51 @@ def kinds():
 
 
 def other_lanes():
-    """Lanes that are not 1, 4 or 8, with those that fewer bits would take for one of them."""
+    """Lanes that are not 1, 4 or 8, with those that fewer bits would take for one of them"""
     for lanes in (0, 2, 3, 9, 16, 2**8 + 1, 2**32 + 1, 2**32 + 4, 2**32 + 8, 2**64 - 1):
         low = lanes % 2**8 if lanes % 2**8 in LANES else 1
         for call in (compressed_block_size,) + MODE_CALLS:
-            yield call, "other-lanes", {**sound(call, low), "lanes": lanes}
+            yield call, "lanes", {**sound(call, low), "lanes": lanes}
 
 
 def widths():
-    """Widths at their limits, with those that fewer bits would take for 2."""
+    """Widths at their limits, with those that fewer bits would take for 2"""
     for n in (0, 1, 2, 31, 32, 33, 255, 2**8 + 2, 2**16 + 2, LARGEST):
         for lanes in LANES:
-            yield compressed_block_size, "widths", dict(lanes=lanes, width=n)
-        yield compress, "widths", {**sound(compress), "width": n, "room": BYTES}
-        yield decompress, "widths", {**sound(decompress, n=32 if n in (31, 32) else 2), "width": n}
+            yield compressed_block_size, "width", dict(lanes=lanes, width=n)
+        yield compress, "width", {**sound(compress), "width": n, "room": BYTES}
+        yield decompress, "width", {**sound(decompress, n=32), "width": n}
 
 
 def other_blocks():
-    """Values that are not exactly a block."""
+    """Values that are not exactly a block"""
     for lanes in LANES:
         for count in (0, 1, 32 * lanes - 1, 32 * lanes + 1, 64 * lanes):
             for call in (compress, num_bits):
-                yield call, "other-block", {**sound(call, lanes), "values": [5] * count}
+                yield call, "block", {**sound(call, lanes), "values": [5] * count}
 
 
 def rooms():
-    """No room, one too little, just enough, one more, and all that there is."""
+    """No room, one too little, just enough, one more, and all that there is"""
     for call, most in ((compress, BYTES), (decompress, VALUES), (write_list, BYTES), (read_list, VALUES), (read_file, VALUES), (write_file, BYTES)):
         for lanes in (1, 8):
             given = sound(call, lanes)
             for room in (0, given["room"] - 1, given["room"], given["room"] + 1, most):
-                yield call, "rooms", {**given, "room": room}
+                yield call, "room", {**given, "room": room}
     for call, size in ((write_list, 16512), (write_file, 16566)):
         for room in (size - 1, size, BYTES):
             yield call, "largest", dict(lanes=1, kind=0, first=0, room=room, values=[LARGEST] * 4096)
 
 
 def counts():
-    """Counts at and past 4,096, with those that 32 bits would take for 0 and for 3."""
+    """Counts at and past 4,096, with those that 32 bits would take for 0 and for 3"""
     for count, size in ((0, 0), (1, 1), (256, 1), (257, 2), (4095, 16), (4096, 16), (4097, 17), (2**32, 0), (2**32 + 3, 1), (2**64 - 1, 1)):
         for room in (3, VALUES):
-            yield read_list, "counts", dict(lanes=8, kind=0, first=0, count=count, room=room, data=bytes(size))
+            yield read_list, "count", dict(lanes=8, kind=0, first=0, count=count, room=room, data=bytes(size))
     for count in (0, 1, 4095, 4096, 4097, VALUES):
         for kind in (0, 1):
             for call in (measure_list, write_list, write_file):
-                given = {**sound(call, 8), "kind": kind, "values": [5] * count}
-                yield call, "counts", given if call == measure_list else {**given, "room": BYTES}
+                yield call, "count", {**sound(call, 8), "kind": kind, "values": [5] * count, **({} if call == measure_list else {"room": BYTES})}
 
 
 FAULTS = {
@@ -258,30 +249,8 @@ FAULTS = {
 }
 
 
-def faulty_body(faults):
-    """The body of 5, 6, 9 sorted from 5, or of more than 4,096 values, with these faults."""
-    entries = [0, 1, 3, 1 if "fill" in faults else 0] + [0] * 28
-    n = 3 if "wider" in faults else 2
-    data = bytes([33 if "33" in faults else n]) + payload_of(1, n, entries)
-    data = data[:1] if "cut" in faults else data + bytes(128 * ("many" in faults)) + bytes("more" in faults)
-    return b"" if "none" in faults else data
-
-
-def faulty_read(call, faults):
-    """What reading is given with these faults. From 4,294,967,294 the same entries break the order."""
-    first = LARGEST - 1 if "order" in faults else 5
-    count = 4097 if "many" in faults else 3
-    room = count - 1 if "room" in faults else VALUES
-    data = faulty_body(faults)
-    if call == read_list:
-        return dict(lanes=2 if "lanes" in faults else 1, kind=1, first=first, count=count, room=room, data=data)
-    return dict(room=room, data=header_text(2 if "header" in faults else 1, sorted_from(first), count, len(data)) + data)
-
-
 def faulty(call, faults):
-    """What a call is given with these faults and no other, sorted from 5."""
-    if call in (read_list, read_file):
-        return faulty_read(call, faults)
+    """What a call on values, or unpacking, is given with these faults and no other, sorted from 5."""
     given = sound(call)
     if "lanes" in faults:
         given["lanes"] = 2
@@ -304,28 +273,50 @@ def faulty(call, faults):
     return given
 
 
+def faulty_body(faults):
+    """The body of 5, 6, 9 sorted from 5, or of more than 4,096 values, with these faults."""
+    entries = [0, 1, 3, 1 if "fill" in faults else 0] + [0] * 28
+    n = 3 if "wider" in faults else 2
+    data = bytes([33 if "33" in faults else n]) + payload_of(1, n, entries)
+    data = data[:1] if "cut" in faults else data + bytes(128 * ("many" in faults)) + bytes("more" in faults)
+    return b"" if "none" in faults else data
+
+
+def faulty_read(call, faults):
+    """What reading is given with these faults. From 4,294,967,294 the same entries break the order."""
+    first = LARGEST - 1 if "order" in faults else 5
+    count = 4097 if "many" in faults else 3
+    room = count - 1 if "room" in faults else VALUES
+    data = faulty_body(faults)
+    if call == read_list:
+        return dict(lanes=2 if "lanes" in faults else 1, kind=1, first=first, count=count, room=room, data=data)
+    return dict(room=room, data=header_text(2 if "header" in faults else 1, sorted_from(first), count, len(data)) + data)
+
+
 def sets_of(names, most):
     return itertools.chain.from_iterable(itertools.combinations(names, size) for size in range(most + 1))
 
 
 def fault_sets():
-    """Every set of faults of a call; of reading a list each fault and each two, and of reading a file each fault, and each beside 12."""
+    """Every set of faults of a call, and of reading each fault and each two"""
     for call, names in FAULTS.items():
-        for some in sets_of(names, 2 if call in (read_list, read_file) else len(names)):
+        reads = call in (read_list, read_file)
+        for some in sets_of(names, 2 if reads else len(names)):
             if call != read_file or len(some) < 2 or "header" in some:
-                yield call, "-".join(some) or "sound", faulty(call, some)
+                yield call, "-".join(some) or "sound", (faulty_read if reads else faulty)(call, some)
 
 
 def no_kinds():
-    """Kinds that there are not, beside no fault, each fault and all."""
+    """Kinds that there are not, beside no fault, each fault and all"""
     for call in MODE_CALLS:
         for some in itertools.chain(sets_of(FAULTS[call], 1), [FAULTS[call]]):
             for kind in NO_KINDS:
-                yield call, "-".join(("kind",) + some), {**faulty(call, some), "kind": kind}
+                given = (faulty_read if call == read_list else faulty)(call, some)
+                yield call, "-".join(("kind",) + some), {**given, "kind": kind}
 
 
 def headers():
-    """Files in each mode with each `first`, and files that are not as document 01 has them."""
+    """Files in each mode with each `first`, and files that are not as document 01 has them"""
     for mode in ("plain", "sorted", "strict"):
         for first in ("none", "0", "5", "4294967294", "4294967295", "4294967296", ""):
             file = f"lanes=4\nmode={mode}\nfirst={first}\ncount=3\nbytes=1\n\n".encode() + bytes(1)
@@ -338,7 +329,7 @@ def headers():
 
 
 def opened():
-    """What is handed out of a file, and zeros beside 12."""
+    """What is handed out of a file, and zeros beside 12"""
     for name, file in headers():
         yield header, name, dict(data=file)
         yield body, name, dict(data=file)
@@ -352,10 +343,11 @@ def main():
     for section in TABLE:
         print("#", section.__doc__.strip())
         for call, name, given in section():
+            line = head_of(call, name, given)
             if sys.argv[1:] == ["cases"]:
-                print(head_of(call, name, given) + input_of(given))
+                print(line + ":" + input_of(given))
             else:
-                print(head_of(call, name, given), *call(**given))
+                print(line, call(**given))
 
 
 if __name__ == "__main__":

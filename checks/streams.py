@@ -193,6 +193,9 @@ def try_script(script, folder):
 
     held("read_slot, a sound list", read_slot("sound.list"), (0, b"", b""))
     held("read_slot, its pages", pages.read_bytes(), run("list_to_text", (EXAMPLES / "sound.list").read_bytes())[0])
+    refusal = folder / "refusal.list"
+    refusal.write_bytes(REFUSED)
+    held("read_slot, a file that is itself a line of refusal", read_slot(refusal), (1, REFUSED, b""))
     for file in sorted(EXAMPLES.glob("refused_*.list")):
         number = int(file.name.split("_")[1])
         held(f"read_slot, {file.name}", read_slot(file.name), (1, b"refused=%d\n" % number, b""))

@@ -13,7 +13,7 @@ fn wide(x: u8) -> u32
     x as u32
 }
 
-// The word that starts start byte `start`.
+// The word that starts at byte `start`.
 fn load_word(bytes: &[u8], start: usize) -> u32
     requires { ⌜ start + 4 ≤ length (now bytes) ⌝ }
     ensures { λ r. ⌜ r ≡ wordAt (now (bytes .entry)) start ⌝ }

@@ -1,6 +1,6 @@
-// What a buffer holds that was full of marks before a call.
+// What a buffer holds that was full of marks before a call: how many marks are left at its end, and its checksum.
 use tables::bytes_sum;
-use tables::line;
+use tables::line::Numbers;
 use tables::values_sum;
 
 // How many bytes at the end are still marks.
@@ -29,28 +29,12 @@ fn values_kept(values: &[u32]) -> usize {
     kept
 }
 
-// What a whole buffer of bytes holds.
-pub(crate) fn bytes_words(bytes: &[u8]) {
-    let numbers = [
-        bytes_kept(bytes) as u64,
-        bytes_sum(bytes) as u64,
-        0,
-        0,
-        0,
-        0,
-    ];
-    line::numbers(b" bytes_kept=# bytes_sum=#", numbers);
+pub(crate) fn bytes_held(numbers: Numbers, bytes: &[u8]) -> Numbers {
+    let kept = numbers.with(bytes_kept(bytes) as u64);
+    kept.with_value(bytes_sum(bytes))
 }
 
-// What a whole buffer of values holds.
-pub(crate) fn values_words(values: &[u32]) {
-    let numbers = [
-        values_kept(values) as u64,
-        values_sum(values) as u64,
-        0,
-        0,
-        0,
-        0,
-    ];
-    line::numbers(b" values_kept=# values_sum=#", numbers);
+pub(crate) fn values_held(numbers: Numbers, values: &[u32]) -> Numbers {
+    let kept = numbers.with(values_kept(values) as u64);
+    kept.with_value(values_sum(values))
 }

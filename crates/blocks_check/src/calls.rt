@@ -1,82 +1,104 @@
-// The calls with the lanes, the mode and the width of a case, and a word with what each answers.
-use crate::buffers::bytes_words;
-use crate::buffers::values_words;
+// The calls with the lanes, the mode and the width of a case, each with what it answers among the numbers that are to be written.
 use blocks::compress;
 use blocks::compressed_block_size;
 use blocks::decompress;
 use blocks::num_bits;
-use modes::Mode;
-use tables::buffers::marked_bytes;
-use tables::buffers::marked_values;
 use tables::lesser;
-use tables::line;
+use tables::line::Numbers;
 use tables::words::mode;
 use tables::words::narrow;
 use tables::words::number;
-
-pub(crate) struct Call {
-    pub(crate) lanes: usize,
-    pub(crate) mode: Mode,
-    pub(crate) width: u32,
-}
-
-pub(crate) fn call_of(case: &[u8]) -> Call {
-    Call {
-        lanes: number(b'l', case) as usize,
-        mode: mode(case),
-        width: narrow(number(b'w', case)),
-    }
-}
+ghost use mathlib.Core.Path.{_≡_};
+ghost use lib.ListN.{length};
 
 // More bytes than the largest payload has, and more values than the largest block.
 pub(crate) const BYTES: usize = 1040;
 
 pub(crate) const VALUES: usize = 264;
 
-impl Call {
-    pub(crate) fn size(self) -> usize {
-        let size = compressed_block_size(self.lanes, self.width);
-        line::answer(b" size=", size);
-        size.length
-    }
+fn lanes(case: &[u8]) -> usize {
+    number(b'l', case) as usize
+}
 
-    pub(crate) fn least(self, values: &[u32]) {
-        let mode = self.mode;
-        let least = num_bits(self.lanes, mode, values);
-        let refusal = least.refusal;
-        let numbers = [refusal.number() as u64, least.width as u64, 0, 0, 0, 0];
-        line::numbers(b" least=#,#", numbers);
-    }
+pub(crate) fn width(case: &[u8]) -> u32 {
+    narrow(number(b'w', case))
+}
 
-    // Answers the length.
-    pub(crate) fn pack(self, values: &[u32], output: &mut [u8]) -> usize {
-        let mode = self.mode;
-        let packed = compress(self.lanes, mode, values, output, self.width);
-        line::answer(b" pack=", packed);
-        packed.length
-    }
+// The length of a payload.
+pub(crate) fn length(case: &[u8]) -> usize {
+    let size = compressed_block_size(lanes(case), width(case));
+    size.length
+}
 
-    pub(crate) fn unpack(self, bytes: &[u8], output: &mut [u32]) {
-        let mode = self.mode;
-        let unpacked = decompress(self.lanes, mode, bytes, output, self.width);
-        line::answer(b" unpack=", unpacked);
-    }
+pub(crate) fn size(numbers: Numbers, case: &[u8]) -> Numbers {
+    numbers.with_answer(compressed_block_size(lanes(case), width(case)))
+}
 
-    // Pack into so much room, and show the whole buffer afterwards.
-    pub(crate) fn pack_into(self, values: &[u32], room: usize) {
-        let mut all = marked_bytes();
-        let output = &mut all[0..BYTES];
-        let end = lesser(room, output.len());
-        self.pack(values, &mut output[0..end]);
-        bytes_words(output);
-    }
+pub(crate) fn least(numbers: Numbers, case: &[u8], values: &[u32]) -> Numbers {
+    let least = num_bits(lanes(case), mode(case), values);
+    let refusal = least.refusal;
+    let refused = numbers.with_value(refusal.number());
+    refused.with_value(least.width)
+}
 
-    // Unpack into so much room, and show the whole buffer afterwards.
-    pub(crate) fn unpack_into(self, bytes: &[u8], room: usize) {
-        let mut all = marked_values();
-        let output = &mut all[0..VALUES];
-        let end = lesser(room, output.len());
-        self.unpack(bytes, &mut output[0..end]);
-        values_words(output);
+// The output of pack, all of which was marks before.
+pub(crate) struct Packed {
+    pub(crate) numbers: Numbers,
+    pub(crate) bytes: [u8; 1040],
+}
+
+fn marked_bytes() -> [u8; 1040]
+    ensures { λ r. ⌜ 1040 ≡ length r ⌝ }
+{
+    [165; 1040]
+}
+
+// Pack into so much room.
+pub(crate) fn pack(numbers: Numbers, case: &[u8], values: &[u32], room: usize) -> Packed
+    ensures { λ r. ⌜ 1040 ≡ length (r .bytes) ⌝ }
+{
+    let mut bytes = marked_bytes();
+    let end = lesser(room, BYTES);
+    let packed = compress(
+        lanes(case),
+        mode(case),
+        values,
+        &mut bytes[0..end],
+        width(case),
+    );
+    Packed {
+        numbers: numbers.with_answer(packed),
+        bytes,
+    }
+}
+
+// The output of unpack, all of which was marks before.
+pub(crate) struct Unpacked {
+    pub(crate) numbers: Numbers,
+    pub(crate) values: [u32; 264],
+}
+
+fn marked_values() -> [u32; 264]
+    ensures { λ r. ⌜ 264 ≡ length r ⌝ }
+{
+    [2863311530; 264]
+}
+
+// Unpack into so much room.
+pub(crate) fn unpack(numbers: Numbers, case: &[u8], bytes: &[u8], room: usize) -> Unpacked
+    ensures { λ r. ⌜ 264 ≡ length (r .values) ⌝ }
+{
+    let mut values = marked_values();
+    let end = lesser(room, VALUES);
+    let unpacked = decompress(
+        lanes(case),
+        mode(case),
+        bytes,
+        &mut values[0..end],
+        width(case),
+    );
+    Unpacked {
+        numbers: numbers.with_answer(unpacked),
+        values,
     }
 }

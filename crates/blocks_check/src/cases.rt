@@ -1,78 +1,66 @@
 // The kinds of cases.
-use crate::buffers::bytes_words;
-use crate::buffers::values_words;
+use crate::buffers::bytes_held;
+use crate::buffers::values_held;
 use crate::calls::BYTES;
-use crate::calls::Call;
 use crate::calls::VALUES;
-use crate::calls::call_of;
-use crate::inputs::given_values;
+use crate::calls::least;
+use crate::calls::length;
+use crate::calls::pack;
+use crate::calls::size;
+use crate::calls::unpack;
+use crate::calls::width;
 use crate::inputs::noise;
 use crate::inputs::one_entry;
 use libc::STDOUT_FILENO;
 use tables::buffers::first_bytes;
 use tables::buffers::first_values;
-use tables::buffers::marked_bytes;
-use tables::buffers::marked_values;
 use tables::buffers::same_bytes;
 use tables::buffers::same_values;
 use tables::line;
+use tables::line::Numbers;
+use tables::line::no_numbers;
 use tables::wide;
-use tables::words::narrow;
+use tables::words::given_values;
 use tables::words::number;
 
 // How many values a case has, or packs.
-fn count_of(case: &[u8]) -> usize {
+fn count(case: &[u8]) -> usize {
     number(b'v', case) as usize
 }
 
-// All four calls, on a block with one entry that is not 0, of which so many values are packed, and on so many bytes that are unpacked. Pack
-// has room for as many bytes, and unpack for as many values.
-fn four_calls(call: Call, values: &[u32], bytes: &[u8]) {
-    call.size();
-    call.pack_into(values, bytes.len());
-    call.unpack_into(bytes, values.len());
-    call.least(values);
+// Pack into so much room, and what the whole output holds then.
+fn pack_held(numbers: Numbers, case: &[u8], values: &[u32], room: usize) -> Numbers {
+    let packed = pack(numbers, case, values, room);
+    let bytes = packed.bytes;
+    bytes_held(packed.numbers, &bytes)
+}
+
+// Unpack into so much room, and what the whole output holds then.
+fn unpack_held(numbers: Numbers, case: &[u8], bytes: &[u8], room: usize) -> Numbers {
+    let unpacked = unpack(numbers, case, bytes, room);
+    let values = unpacked.values;
+    values_held(unpacked.numbers, &values)
+}
+
+// All four calls, on so many values of a block with one entry that is not 0, and on so many bytes. Pack has room for as many bytes, and
+// unpack for as many values.
+fn four_calls(case: &[u8], values: &[u32], bytes: &[u8]) {
+    let packed = pack_held(size(no_numbers(), case), case, values, bytes.len());
+    let unpacked = unpack_held(packed, case, bytes, values.len());
+    let all = least(unpacked, case, values);
+    all.write(
+        b" size=#,# pack=#,# bytes_kept=# bytes_sum=# unpack=#,# values_kept=# values_sum=# least=#,#",
+    );
 }
 
 pub(crate) fn all_calls(case: &[u8]) {
-    let call = call_of(case);
-    let mode = call.mode;
-    let block = one_entry(
-        mode,
-        number(b'p', case) as usize,
-        narrow(number(b'e', case)),
+    let values = one_entry(case);
+    let bytes = noise(7);
+    four_calls(
+        case,
+        first_values(&values, count(case)),
+        first_bytes(&bytes, number(b'b', case) as usize),
     );
-    let payload = noise(7);
-    let bytes = first_bytes(&payload, number(b'b', case) as usize);
-    four_calls(call, first_values(&block, count_of(case)), bytes);
-}
-
-// How many values come back from a payload.
-fn back_words(call: Call, payload: &[u8], values: &[u32]) {
-    let mut all = marked_values();
-    let back = &mut all[0..VALUES];
-    call.unpack(payload, back);
-    line::number(b" back=", same_values(values, back) as u64);
-}
-
-// A block packed into the output and back. Answers the length of its payload.
-fn there_and_back(case: &[u8], output: &mut [u8]) -> usize {
-    let call = call_of(case);
-    let all = given_values(case);
-    let values = first_values(&all, count_of(case));
-    call.least(values);
-    line::number(b" width=", call.width as u64);
-    let length = call.pack(values, output);
-    back_words(call, first_bytes(output, length), values);
-    length
-}
-
-// The payload in hex.
-pub(crate) fn back_payload(case: &[u8]) {
-    let mut all = marked_bytes();
-    let output = &mut all[0..BYTES];
-    let length = there_and_back(case, output);
-    line::hex(b" payload=", first_bytes(output, length));
 }
 
 // A word for the byte at a place, in hex, where it is not 0.
@@ -91,83 +79,92 @@ fn bytes_not_zero(bytes: &[u8]) {
     }
 }
 
-// The bytes of the payload that are not 0.
-pub(crate) fn back_bytes(case: &[u8]) {
-    let mut all = marked_bytes();
-    let output = &mut all[0..BYTES];
-    let length = there_and_back(case, output);
-    bytes_not_zero(first_bytes(output, length));
-}
-
 // What the whole output holds, and how the values go on.
-pub(crate) fn back_kept(case: &[u8]) {
-    let mut all = marked_bytes();
-    let output = &mut all[0..BYTES];
-    there_and_back(case, output);
-    bytes_words(output);
-    let numbers = [number(b'g', case), number(b's', case), 0, 0, 0, 0];
-    line::numbers(b" start=# step=#", numbers);
+fn show_held(case: &[u8], output: &[u8]) {
+    let held = bytes_held(no_numbers(), output);
+    let started = held.with(number(b'g', case));
+    let all = started.with(number(b's', case));
+    all.write(b" bytes_kept=# bytes_sum=# start=# step=#");
 }
 
-fn value_at(values: &[u32], place: usize) -> u32 {
-    if place < values.len() {
-        values[place]
-    } else {
-        0
+// The payload in hex, `payload`, its bytes that are not 0, `bytes`, or what the whole output holds, `kept`.
+fn show(kind: u8, case: &[u8], output: &[u8]) {
+    let payload = first_bytes(output, length(case));
+    match kind {
+        b'p' => line::hex(b" payload=", payload),
+        b'b' => bytes_not_zero(payload),
+        _ => show_held(case, output),
     }
 }
 
-// The first three values and the last, and that the block packs to no bytes.
-fn packed_to_nothing(call: Call, values: &[u32]) {
-    let last = if 0 < values.len() {
-        values.len() - 1
-    } else {
-        0
-    };
-    let numbers = [
-        value_at(values, 0) as u64,
-        value_at(values, 1) as u64,
-        value_at(values, 2) as u64,
-        value_at(values, last) as u64,
-        0,
-        0,
-    ];
-    line::numbers(b" value0=# value1=# value2=# last=#", numbers);
-    call.pack_into(values, 0);
+// The values back from an output, and how many of them there are.
+fn back(numbers: Numbers, case: &[u8], values: &[u32], output: &[u8]) {
+    let unpacked = unpack(numbers, case, first_bytes(output, length(case)), VALUES);
+    let others = unpacked.values;
+    let answered = unpacked.numbers;
+    let all = answered.with(same_values(values, &others) as u64);
+    all.write(b" least=#,# width=# pack=#,# unpack=#,# back=#");
+}
+
+// A block there and back.
+fn there_and_back(kind: u8, case: &[u8], values: &[u32]) {
+    let leasts = least(no_numbers(), case, values);
+    let packed = pack(leasts.with_value(width(case)), case, values, BYTES);
+    let bytes = packed.bytes;
+    let output: &[u8] = &bytes;
+    back(packed.numbers, case, values, output);
+    show(kind, case, output);
+}
+
+pub(crate) fn payload(kind: u8, case: &[u8]) {
+    let values = given_values(case);
+    there_and_back(kind, case, first_values(&values, count(case)));
+}
+
+// The first three values and the last, where there are so many.
+fn some_values(numbers: Numbers, values: &[u32]) -> Numbers {
+    if values.len() < 3 {
+        return numbers;
+    }
+    let one = numbers.with_value(values[0]);
+    let two = one.with_value(values[1]);
+    let three = two.with_value(values[2]);
+    three.with_value(values[values.len() - 1])
+}
+
+// The block that stands in an output packs to no bytes.
+fn nothing(numbers: Numbers, case: &[u8], output: &[u32]) {
+    let values = first_values(output, count(case));
+    let held = values_held(numbers, output);
+    let all = pack_held(some_values(held, values), case, values, 0);
+    all.write(
+        b" unpack=#,# values_kept=# values_sum=# value0=# value1=# value2=# last=# pack=#,# bytes_kept=# bytes_sum=#",
+    );
 }
 
 // No bytes at width 0 are a block, written over what was there.
 pub(crate) fn width_zero(case: &[u8]) {
-    let call = call_of(case);
-    let mut all = marked_values();
-    let values = &mut all[0..VALUES];
-    call.unpack(b"", values);
-    values_words(values);
-    packed_to_nothing(call, first_values(values, count_of(case)));
+    let unpacked = unpack(no_numbers(), case, b"", VALUES);
+    let values = unpacked.values;
+    nothing(unpacked.numbers, case, &values);
 }
 
-// How many bytes come back from a block.
-fn again_words(call: Call, values: &[u32], bytes: &[u8]) {
-    let mut all = marked_bytes();
-    let back = &mut all[0..BYTES];
-    call.least(values);
-    call.pack(values, back);
-    line::number(b" back=", same_bytes(bytes, back) as u64);
+// The bytes back from the block that stands in an output, and how many of them there are.
+fn again(numbers: Numbers, case: &[u8], bytes: &[u8], output: &[u32]) {
+    let values = first_values(output, count(case));
+    let held = values_held(numbers, output);
+    let packed = pack(least(held, case, values), case, values, BYTES);
+    let others = packed.bytes;
+    let answered = packed.numbers;
+    let all = answered.with(same_bytes(bytes, &others) as u64);
+    all.write(b" size=#,# unpack=#,# values_kept=# values_sum=# least=#,# pack=#,# back=#");
 }
 
-// The block that some bytes give.
-fn block_words(call: Call, bytes: &[u8], count: usize) {
-    let mut all = marked_values();
-    let values = &mut all[0..VALUES];
-    call.unpack(bytes, values);
-    values_words(values);
-    again_words(call, first_values(values, count), bytes);
-}
-
-// Bytes that are unpacked, the block that they give, and how many of them come back from it.
+// Any bytes that are unpacked.
 pub(crate) fn trip(case: &[u8]) {
-    let call = call_of(case);
-    let all = noise(call.width);
-    let length = call.size();
-    block_words(call, first_bytes(&all, length), count_of(case));
+    let all = noise(width(case));
+    let bytes = first_bytes(&all, length(case));
+    let unpacked = unpack(size(no_numbers(), case), case, bytes, VALUES);
+    let values = unpacked.values;
+    again(unpacked.numbers, case, bytes, &values);
 }

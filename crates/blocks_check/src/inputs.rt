@@ -3,10 +3,9 @@ use modes::Mode;
 use modes::initial_value;
 use std::num::wrapping_add_u32;
 use tables::noise_after;
+use tables::words::mode;
 use tables::words::narrow;
 use tables::words::number;
-use tables::words::put_values;
-use tables::words::value;
 ghost use mathlib.Core.Path.{_≡_};
 ghost use lib.ListN.{length};
 
@@ -38,7 +37,7 @@ fn entry_at(k: usize, place: usize, entry: u32) -> u32 {
 }
 
 // Values whose entries are all 0, but for the one at a place.
-pub(crate) fn one_entry(mode: Mode, place: usize, entry: u32) -> [u32; 264]
+fn values_of(mode: Mode, place: usize, entry: u32) -> [u32; 264]
     ensures { λ r. ⌜ 264 ≡ length r ⌝ }
 {
     let mut values = [0u32; 264];
@@ -50,11 +49,13 @@ pub(crate) fn one_entry(mode: Mode, place: usize, entry: u32) -> [u32; 264]
     values
 }
 
-// The values of the words `given` and `step`.
-pub(crate) fn given_values(case: &[u8]) -> [u32; 264]
+// The values of the words `place` and `entry`.
+pub(crate) fn one_entry(case: &[u8]) -> [u32; 264]
     ensures { λ r. ⌜ 264 ≡ length r ⌝ }
 {
-    let mut values = [0u32; 264];
-    put_values(value(b'g', case), narrow(number(b's', case)), &mut values);
-    values
+    values_of(
+        mode(case),
+        number(b'p', case) as usize,
+        narrow(number(b'e', case)),
+    )
 }

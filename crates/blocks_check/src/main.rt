@@ -2,9 +2,7 @@
 // case and words that are not shown, as `case1 lanes=1 mode=plain: bytes width=2 given=1,2,3,0 step=0`. What stands before the `:` is
 // written, and behind it what the calls answer. checks/blocks.py makes the table, and works out the same answers from document 01.
 use cases::all_calls;
-use cases::back_bytes;
-use cases::back_kept;
-use cases::back_payload;
+use cases::payload;
 use cases::trip;
 use cases::width_zero;
 use libc::STDIN_FILENO;
@@ -20,21 +18,19 @@ mod calls;
 mod cases;
 mod inputs;
 
-// The kinds: `calls`, `payload`, `bytes`, `kept`, `zero` and `trip`.
-fn run_case(case: &[u8]) {
-    match letter_at(behind(b':', case), 1) {
+// The kinds: `calls`, `zero`, `trip`, and `payload`, `bytes` and `kept`.
+fn run_kind(kind: u8, case: &[u8]) {
+    match kind {
         b'c' => all_calls(case),
-        b'p' => back_payload(case),
-        b'b' => back_bytes(case),
-        b'k' => back_kept(case),
         b'z' => width_zero(case),
-        _ => trip(case),
+        b't' => trip(case),
+        _ => payload(kind, case),
     }
 }
 
 fn run_line(case: &[u8]) {
     io::write_all(STDOUT_FILENO, before(b':', case));
-    run_case(case);
+    run_kind(letter_at(behind(b':', case), 1), case);
     line::end();
 }
 

@@ -123,7 +123,13 @@ module _ (L : ℕ) (lanes : 0 < L) (m : Mode) (count : ℕ) (bs : List ℕ) (byt
   all-taken : Taken L m count bs (blockCount L count) (bodyStop L m count bs)
   all-taken = taken (blockCount L count) L m count bs bytes
 
-  pub kept-count : count - bodyStop L m count bs .left ≡ min count (bodyStop L m count bs .blocks * blockSize L)
+  pub kept-left : bodyStop L m count bs .left ≡ count - bodyStop L m count bs .blocks * blockSize L
+  kept-left = all-taken .rest
+
+  pub kept-inside : bodyStop L m count bs .place ≤ length bs
+  kept-inside = all-taken .within
+
+  kept-count : count - bodyStop L m count bs .left ≡ min count (bodyStop L m count bs .blocks * blockSize L)
   kept-count = omega (arith, all-taken .rest)
 
   kept-blocks : blockCount L (count - bodyStop L m count bs .left) ≡ bodyStop L m count bs .blocks

@@ -21,8 +21,10 @@ use Rattle.lists.specs.Demand.{Holds}
 pub record Stops (L : ℕ) (m : Mode) (count : ℕ) (bs : List ℕ) (s : Stop) : Type 0 where
   -- it stops at the refusal of reading, with room for the count
   pub refused : (room : ℕ) → count ≤ room → s .refusal ≡ readRefusal L m count bs room
-  -- what is taken is min(count, blocks x B) values: none is left of an accepted body, and no byte behind the last block
-  pub size : count - s .left ≡ min count (s .blocks * blockSize L)
+  -- what is taken is blocks x B values, or all there are, and lies within the bytes; none is left of an accepted body, and no byte behind
+  -- the last block
+  pub left : s .left ≡ count - s .blocks * blockSize L
+  pub inside : s .place ≤ length bs
   pub whole : accepted (s .refusal) ≡ true → (s .left ≡ 0) × (s .place ≡ length bs)
   -- the bytes up to the place are the body of these values, and the mode is the one past them
   pub list : List ℕ

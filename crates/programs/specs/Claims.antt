@@ -12,6 +12,6 @@ use Rattle.programs.specs.Programs.{IsText, valuesIn, isText}
 abbrev pub TextsExactly : Type 0
 TextsExactly = (text : List ℕ) → (isText text ≡ true) ↔ ((L : ℕ) × ((m : Mode) × ((vs : List ℕ) × IsText text L m vs)))
 
--- and those values are found
+-- and those values are found. (That the lanes and the mode are: files/specs/Claims, SettingsBack.)
 abbrev pub TextValues : Type 0
 TextValues = (text : List ℕ) (L : ℕ) (m : Mode) (vs : List ℕ) → IsText text L m vs → valuesIn text ≡ vs

@@ -1,12 +1,6 @@
-// The eleven calls, numbered as include/sisalshed.h has them. All that a call answers is written, and the checksums of the memory that it was
-// lent to write.
-use crate::buffers::marked_bytes;
-use crate::buffers::marked_values;
-use crate::numbers::Given;
-use libc::STDOUT_FILENO;
+// The eleven calls. Each is given the arguments and the input of its line, and all that it answers is written, with the checksum of the
+// memory that it was lent to write.
 use sisalshed::CAnswer;
-use sisalshed::CBody;
-use sisalshed::CHeader;
 use sisalshed::sisalshed_body;
 use sisalshed::sisalshed_compress;
 use sisalshed::sisalshed_compressed_block_size;
@@ -19,91 +13,116 @@ use sisalshed::sisalshed_read_list;
 use sisalshed::sisalshed_write_file;
 use sisalshed::sisalshed_write_list;
 use tables::bytes_sum;
-use tables::lesser;
+use tables::line::Numbers;
+use tables::line::no_numbers;
 use tables::values_sum;
+use tables::words::narrow;
+use tables::words::number;
 
-// A number, behind a blank.
-fn show(number: u64) {
-    io::write_all(STDOUT_FILENO, b" ");
-    io::print_decimal(STDOUT_FILENO, number);
+fn lanes(case: &[u8]) -> usize {
+    number(b'l', case) as usize
 }
 
-// The calls that answer a number and a length. Some write bytes, some values, some nothing; all are lent both.
-fn call(
-    given: Given,
-    values: &[u32],
-    bytes: &[u8],
-    out_bytes: &mut [u8],
-    out_values: &mut [u32],
-) -> CAnswer {
-    let number = given.call;
-    let lanes = given.lanes;
-    let kind = given.kind;
-    let first = given.first;
-    let width = given.width;
-    let count = given.count;
-    match number {
-        1 => sisalshed_compressed_block_size(lanes, width),
-        2 => sisalshed_compress(lanes, kind, first, values, out_bytes, width),
-        3 => sisalshed_decompress(lanes, kind, first, bytes, out_values, width),
-        4 => sisalshed_num_bits(lanes, kind, first, values),
-        5 => sisalshed_measure_list(lanes, kind, first, values),
-        6 => sisalshed_write_list(lanes, kind, first, values, out_bytes),
-        7 => sisalshed_read_list(lanes, kind, first, count, bytes, out_values),
-        10 => sisalshed_read_file(bytes, out_values),
-        _ => sisalshed_write_file(lanes, kind, first, values, out_bytes),
+fn kind(case: &[u8]) -> u32 {
+    narrow(number(b'k', case))
+}
+
+fn first(case: &[u8]) -> u32 {
+    narrow(number(b'f', case))
+}
+
+fn width(case: &[u8]) -> u32 {
+    narrow(number(b'w', case))
+}
+
+fn numbers_of(answer: CAnswer) -> Numbers {
+    let numbers = no_numbers();
+    let refused = numbers.with_value(answer.number);
+    refused.with(answer.length as u64)
+}
+
+fn asked(call: u8, case: &[u8], values: &[u32]) -> CAnswer {
+    match call {
+        b'n' => sisalshed_num_bits(lanes(case), kind(case), first(case), values),
+        b'm' => sisalshed_measure_list(lanes(case), kind(case), first(case), values),
+        _ => sisalshed_compressed_block_size(lanes(case), width(case)),
     }
 }
 
-fn show_call(
-    given: Given,
-    values: &[u32],
-    bytes: &[u8],
-    out_bytes: &mut [u8],
-    out_values: &mut [u32],
-) {
-    let answer = call(given, values, bytes, out_bytes, out_values);
-    show(answer.number as u64);
-    show(answer.length as u64);
-    show(bytes_sum(out_bytes) as u64);
-    show(values_sum(out_values) as u64);
+// The calls of blocks and lists that are lent nothing to write.
+pub(crate) fn ask(call: u8, case: &[u8], values: &[u32]) {
+    let answer = numbers_of(asked(call, case, values));
+    answer.write(b" answer=#,#");
 }
 
-// A call with so much room for bytes and for values, full of marks.
-fn lend(given: Given, values: &[u32], bytes: &[u8]) {
-    let mut out_bytes = marked_bytes();
-    let mut out_values = marked_values();
-    let bytes_end = lesser(given.room, 20000);
-    let values_end = lesser(given.room, 4104);
-    show_call(
-        given,
-        values,
-        bytes,
-        &mut out_bytes[0..bytes_end],
-        &mut out_values[0..values_end],
-    );
-}
-
-fn show_header(answer: CHeader) {
-    show(answer.number as u64);
-    show(answer.lanes as u64);
-    show(answer.kind as u64);
-    show(answer.first as u64);
-    show(answer.count as u64);
-    show(answer.bytes as u64);
-}
-
-fn show_body(answer: CBody) {
-    show(answer.number as u64);
-    show(answer.start as u64);
-    show(answer.length as u64);
-}
-
-pub(crate) fn run_call(given: Given, values: &[u32], bytes: &[u8]) {
-    let number = given.call;
-    match number {
-        8 => show_header(sisalshed_header(bytes)),
-        9 => show_body(sisalshed_body(bytes)),
-        _ => lend(given, values, bytes),
+fn written(call: u8, case: &[u8], values: &[u32], output: &mut [u8]) -> CAnswer {
+    match call {
+        b'c' => sisalshed_compress(
+            lanes(case),
+            kind(case),
+            first(case),
+            values,
+            output,
+            width(case),
+        ),
+        b'l' => sisalshed_write_list(lanes(case), kind(case), first(case), values, output),
+        _ => sisalshed_write_file(lanes(case), kind(case), first(case), values, output),
     }
+}
+
+// The calls that write bytes.
+pub(crate) fn show_written(call: u8, case: &[u8], values: &[u32], output: &mut [u8]) {
+    let answer = numbers_of(written(call, case, values, output));
+    let all = answer.with_value(bytes_sum(output));
+    all.write(b" answer=#,#,#");
+}
+
+fn read(call: u8, case: &[u8], bytes: &[u8], output: &mut [u32]) -> CAnswer {
+    match call {
+        b'd' => sisalshed_decompress(
+            lanes(case),
+            kind(case),
+            first(case),
+            bytes,
+            output,
+            width(case),
+        ),
+        b'l' => sisalshed_read_list(
+            lanes(case),
+            kind(case),
+            first(case),
+            number(b'c', case) as usize,
+            bytes,
+            output,
+        ),
+        _ => sisalshed_read_file(bytes, output),
+    }
+}
+
+// The calls that write values.
+pub(crate) fn show_read(call: u8, case: &[u8], bytes: &[u8], output: &mut [u32]) {
+    let answer = numbers_of(read(call, case, bytes, output));
+    let all = answer.with_value(values_sum(output));
+    all.write(b" answer=#,#,#");
+}
+
+pub(crate) fn show_header(file: &[u8]) {
+    let header = sisalshed_header(file);
+    let none = no_numbers();
+    let refused = none.with_value(header.number);
+    let lanes = refused.with_value(header.lanes);
+    let kind = lanes.with_value(header.kind);
+    let first = kind.with_value(header.first);
+    let count = first.with_value(header.count);
+    let all = count.with_value(header.bytes);
+    all.write(b" header=#,#,#,#,#,#");
+}
+
+pub(crate) fn show_body(file: &[u8]) {
+    let body = sisalshed_body(file);
+    let none = no_numbers();
+    let refused = none.with_value(body.number);
+    let start = refused.with(body.start as u64);
+    let all = start.with(body.length as u64);
+    all.write(b" body=#,#,#");
 }

@@ -32,8 +32,6 @@ use Rattle.tables.proofs.noise_after.Reads as noise-after
 use Rattle.tables.proofs.noise_after.Kinds as noise-after-kinds
 use Rattle.tables.proofs.line.number.Reads as line-number
 use Rattle.tables.proofs.line.number.Kinds as line-number-kinds
-use Rattle.tables.proofs.line.numbers.Reads as numbers
-use Rattle.tables.proofs.line.numbers.Kinds as numbers-kinds
 use Rattle.tables.proofs.line.answer.Reads as answer
 use Rattle.tables.proofs.line.answer.Kinds as answer-kinds
 use Rattle.tables.proofs.line.answer_and_sum.Reads as answer-and-sum
@@ -64,6 +62,18 @@ use Rattle.tables.proofs.words.mode.Reads as mode-call
 use Rattle.tables.proofs.words.mode.Kinds as mode-call-kinds
 use Rattle.tables.proofs.words.put_values.Reads as put-values
 use Rattle.tables.proofs.words.put_values.Kinds as put-values-kinds
+use Rattle.tables.proofs.line.no_numbers.Reads as no-numbers
+use Rattle.tables.proofs.line.no_numbers.Kinds as no-numbers-kinds
+use Rattle.tables.proofs.line.Numbers.with.Reads as with-call
+use Rattle.tables.proofs.line.Numbers.with.Kinds as with-call-kinds
+use Rattle.tables.proofs.line.Numbers.with_value.Reads as with-value
+use Rattle.tables.proofs.line.Numbers.with_value.Kinds as with-value-kinds
+use Rattle.tables.proofs.line.Numbers.with_answer.Reads as with-answer
+use Rattle.tables.proofs.line.Numbers.with_answer.Kinds as with-answer-kinds
+use Rattle.tables.proofs.line.Numbers.write.Reads as write
+use Rattle.tables.proofs.line.Numbers.write.Kinds as write-kinds
+use Rattle.tables.proofs.words.given_values.Reads as given-values
+use Rattle.tables.proofs.words.given_values.Kinds as given-values-kinds
 
 lesser-asks-nothing : AsksNothing lesser-kinds.ps lesser.Pre
 lesser-asks-nothing κs a = tt
@@ -152,44 +162,20 @@ noise-after-determined κs a z z′ e e′ p q = p ∙ sym q
 line-number-asks-nothing : AsksNothing line-number-kinds.ps line-number.Pre
 line-number-asks-nothing κs a = tt
 
-line-number-determined : AnswerDetermined line-number-kinds.ps line-number-kinds.r line-number.Post
-line-number-determined κs a z z′ e e′ p q = refl
-
-numbers-asks-nothing : AsksNothing numbers-kinds.ps numbers.Pre
-numbers-asks-nothing κs a = tt
-
-numbers-determined : AnswerDetermined numbers-kinds.ps numbers-kinds.r numbers.Post
-numbers-determined κs a z z′ e e′ p q = refl
-
 answer-asks-nothing : AsksNothing answer-kinds.ps answer.Pre
 answer-asks-nothing κs a = tt
-
-answer-determined : AnswerDetermined answer-kinds.ps answer-kinds.r answer.Post
-answer-determined κs a z z′ e e′ p q = refl
 
 answer-and-sum-asks-nothing : AsksNothing answer-and-sum-kinds.ps answer-and-sum.Pre
 answer-and-sum-asks-nothing κs a = tt
 
-answer-and-sum-determined : AnswerDetermined answer-and-sum-kinds.ps answer-and-sum-kinds.r answer-and-sum.Post
-answer-and-sum-determined κs a z z′ e e′ p q = refl
-
 list-asks-nothing : AsksNothing list-call-kinds.ps list-call.Pre
 list-asks-nothing κs a = tt
-
-list-determined : AnswerDetermined list-call-kinds.ps list-call-kinds.r list-call.Post
-list-determined κs a z z′ e e′ p q = refl
 
 hex-asks-nothing : AsksNothing hex-kinds.ps hex.Pre
 hex-asks-nothing κs a = tt
 
-hex-determined : AnswerDetermined hex-kinds.ps hex-kinds.r hex.Post
-hex-determined κs a z z′ e e′ p q = refl
-
 end-asks-nothing : AsksNothing end-call-kinds.ps end-call.Pre
 end-asks-nothing κs a = tt
-
-end-determined : AnswerDetermined end-call-kinds.ps end-call-kinds.r end-call.Post
-end-determined κs a z z′ e e′ p q = refl
 
 letter-at-asks-nothing : AsksNothing letter-at-kinds.ps letter-at.Pre
 letter-at-asks-nothing κs a = tt
@@ -250,3 +236,36 @@ put-values-asks-nothing κs a = tt
 
 put-values-determined : Determined put-values-kinds.ps put-values-kinds.r put-values.Post (λ κs e. e .1 .1 .0 .now)
 put-values-determined κs a z z′ e e′ p q = (refl, p ∙ sym q)
+
+no-numbers-asks-nothing : AsksNothing no-numbers-kinds.ps no-numbers.Pre
+no-numbers-asks-nothing κs a = tt
+
+no-numbers-determined : AnswerDetermined no-numbers-kinds.ps no-numbers-kinds.r no-numbers.Post
+no-numbers-determined κs a z z′ e e′ p q = p ∙ sym q
+
+with-asks-nothing : AsksNothing with-call-kinds.ps with-call.Pre
+with-asks-nothing κs a = tt
+
+with-determined : AnswerDetermined with-call-kinds.ps with-call-kinds.r with-call.Post
+with-determined κs a z z′ e e′ p q = p ∙ sym q
+
+with-value-asks-nothing : AsksNothing with-value-kinds.ps with-value.Pre
+with-value-asks-nothing κs a = tt
+
+with-value-determined : AnswerDetermined with-value-kinds.ps with-value-kinds.r with-value.Post
+with-value-determined κs a z z′ e e′ p q = p ∙ sym q
+
+with-answer-asks-nothing : AsksNothing with-answer-kinds.ps with-answer.Pre
+with-answer-asks-nothing κs a = tt
+
+with-answer-determined : AnswerDetermined with-answer-kinds.ps with-answer-kinds.r with-answer.Post
+with-answer-determined κs a z z′ e e′ p q = p ∙ sym q
+
+write-asks-nothing : AsksNothing write-kinds.ps write.Pre
+write-asks-nothing κs a = tt
+
+given-values-asks-nothing : AsksNothing given-values-kinds.ps given-values.Pre
+given-values-asks-nothing κs a = tt
+
+given-values-determined : AnswerDetermined given-values-kinds.ps given-values-kinds.r given-values.Post
+given-values-determined κs a z z′ e e′ p q = p .0 ∙ sym (q .0)

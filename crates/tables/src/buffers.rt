@@ -6,11 +6,11 @@ ghost use lib.ListN.{length, take};
 ghost use Rattle.tables.specs.Tables.{full, sameFront};
 
 // More bytes than a table has.
-pub fn table_room() -> [u8; 131072]
-    ensures { λ r. ⌜ r ≡ full 131072 0 ⌝ }
-    ensures { λ r. ⌜ 131072 ≡ length r ⌝ }
+pub fn table_room() -> [u8; 262144]
+    ensures { λ r. ⌜ r ≡ full 262144 0 ⌝ }
+    ensures { λ r. ⌜ 262144 ≡ length r ⌝ }
 {
-    [0; 131072]
+    [0; 262144]
 }
 
 // More bytes than any call or program writes, each a mark.

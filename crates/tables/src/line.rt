@@ -5,6 +5,9 @@ use crate::values_sum;
 use crate::wide;
 use answers::Answer;
 use libc::STDOUT_FILENO;
+ghost use mathlib.Core.Path.{_≡_};
+ghost use Rattle.answers.specs.Refusals.{numberOf};
+ghost use Rattle.tables.specs.Numbers.{noNumbers, withNumber};
 
 // A word, which comes with the blank before it and the `=` behind its name, and a number.
 pub fn number(word: &[u8], value: u64) {
@@ -12,26 +15,66 @@ pub fn number(word: &[u8], value: u64) {
     io::print_decimal(STDOUT_FILENO, value);
 }
 
-// One of the numbers, and nothing past the last.
-fn number_at(numbers: [u64; 6], k: usize) {
-    if k < 6 {
-        io::print_decimal(STDOUT_FILENO, numbers[k]);
+// Up to twelve numbers that are to be written, and how many there are.
+pub struct Numbers {
+    items: [u64; 12],
+    count: usize,
+}
+
+pub fn no_numbers() -> Numbers
+    ensures { λ r. ⌜ r ≡ noNumbers ⌝ }
+{
+    Numbers {
+        items: [0; 12],
+        count: 0,
     }
 }
 
-// A text in which a `#` stands for each number in turn.
-pub fn numbers(text: &[u8], numbers: [u64; 6]) {
-    let mut rest = text;
-    let mut k: usize = 0;
-    while 0 < rest.len() {
-        let end = place_of(b'#', rest);
-        io::write_all(STDOUT_FILENO, &rest[..end]);
-        if end == rest.len() {
-            return;
+impl Numbers {
+    // With one number more.
+    pub fn with(self, number: u64) -> Numbers
+        ensures { λ r. ⌜ r ≡ withNumber self number ⌝ }
+    {
+        let mut items = self.items;
+        let count = self.count % 12;
+        items[count] = number;
+        Numbers {
+            items,
+            count: count + 1,
         }
-        number_at(numbers, k);
-        rest = &rest[end + 1..];
-        k += 1;
+    }
+
+    // With one value more.
+    pub fn with_value(self, value: u32) -> Numbers
+        ensures { λ r. ⌜ r ≡ withNumber self value ⌝ }
+    {
+        self.with(value as u64)
+    }
+
+    // With what a call answers, the number of the refusal and the length.
+    pub fn with_answer(self, value: Answer) -> Numbers
+        ensures { λ r. ⌜ r ≡ withNumber (withNumber self (numberOf (value .refusal))) (value .length) ⌝ }
+    {
+        let refusal = value.refusal;
+        let numbers = self.with_value(refusal.number());
+        numbers.with(value.length as u64)
+    }
+
+    // A text in which a `#` stands for each number in turn.
+    pub fn write(self, text: &[u8]) {
+        let items = self.items;
+        let mut rest = text;
+        let mut k: usize = 0;
+        while 0 < rest.len() {
+            let end = place_of(b'#', rest);
+            io::write_all(STDOUT_FILENO, &rest[..end]);
+            if end == rest.len() {
+                return;
+            }
+            io::print_decimal(STDOUT_FILENO, items[k % 12]);
+            rest = &rest[end + 1..];
+            k += 1;
+        }
     }
 }
 

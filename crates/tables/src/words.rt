@@ -163,3 +163,13 @@ pub fn put_values(text: &[u8], step: u32, values: &mut [u32])
         k += 1;
     }
 }
+
+// The values of the words `given` and `step`: those that are given, and then values that go on by the step.
+pub fn given_values(line: &[u8]) -> [u32; 4104]
+    ensures { λ r. ⌜ r ≡ table (listed (valueOf 103 (now (line .entry))) (numberOf 115 (now (line .entry)) % 4294967296)) 4104 ⌝ }
+    ensures { λ r. ⌜ 4104 ≡ length r ⌝ }
+{
+    let mut values = [0u32; 4104];
+    put_values(value(b'g', line), narrow(number(b's', line)), &mut values);
+    values
+}

@@ -15,7 +15,7 @@ import sys
 TOP = pathlib.Path(__file__).resolve().parent.parent
 # docs/PROMISES.md, "What no contract says": what is read, and what is written to a stream
 NOT_DETERMINED = {("streams", name) for name in ("read_input", "write_output", "warn_of_arguments")}
-NOT_DETERMINED |= {("tables", f"line::{name}") for name in ("number", "write", "answer", "answer_and_sum", "list", "hex", "end")}
+NOT_DETERMINED |= {("tables", f"line::{name}") for name in ("named", "write", "answer", "answer_and_sum", "list", "hex", "end")}
 PUBLIC = re.compile(r'^ *pub (?:extern "C" )?fn (\w+)\(', re.M)
 CONTRACT = re.compile(r"^use Rattle·(\w+)·proofs\.proofs\.((?:\w+\.)*\w+)\.(Reads|Kinds) as (\S+)$", re.M)
 ASKS_NOTHING = re.compile(r"^(\S+)-asks-nothing : AsksNothing (\S+)-kinds\.ps \2\.Pre$", re.M)

@@ -66,7 +66,7 @@ pub(crate) fn all_calls(case: &[u8]) {
 // A word for the byte at a place, in hex, where it is not 0.
 fn byte_word(place: usize, byte: u32) {
     if byte != 0 {
-        line::number(b" byte", place as u64);
+        line::named(b" byte", place as u64);
         io::write_all(STDOUT_FILENO, b"=");
         io::print_hex(STDOUT_FILENO, byte as u64, 2);
     }

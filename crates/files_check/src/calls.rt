@@ -1,129 +1,63 @@
-// The four calls on one file: a word with what each answers, and the checksum of what it handed back or left.
-use crate::buffers::first_values;
-use crate::buffers::marked_bytes;
-use crate::buffers::marked_values;
-use answers::Answer;
-use files::heading::Header;
-use libc::STDOUT_FILENO;
+// The four calls on one file: what each answers, and the checksum of what it handed back or left.
 use modes::Initial;
 use modes::Mode;
+use tables::buffers::first_values;
+use tables::buffers::marked_bytes;
+use tables::buffers::marked_values;
 use tables::bytes_sum;
 use tables::lesser;
+use tables::line;
+use tables::line::Numbers;
+use tables::line::no_numbers;
 use tables::values_sum;
 
-fn number(word: &[u8], value: u64) {
-    io::write_all(STDOUT_FILENO, word);
-    io::print_decimal(STDOUT_FILENO, value);
-}
-
-// The number of the refusal, the length, and the checksum of the output afterwards.
-fn answer(word: &[u8], value: Answer, sum: u32) {
-    let refusal = value.refusal;
-    let length = value.length;
-    let comma: &[u8] = b",";
-    number(word, refusal.number() as u64);
-    number(comma, length as u64);
-    number(comma, sum as u64);
-}
-
 // The mode as two numbers: 0 plain, 1 sorted, 2 strict with none, 3 strict with a number; and the first number, or 0.
-fn kind(mode: Mode) -> u32 {
+fn with_mode(numbers: Numbers, mode: Mode) -> Numbers {
     match mode {
-        Mode::Plain => 0,
-        Mode::Sorted(_) => 1,
+        Mode::Plain => with_both(numbers, 0, 0),
+        Mode::Sorted(first) => with_both(numbers, 1, first),
         Mode::Strict(start) => match start {
-            Initial::None => 2,
-            Initial::Number(_) => 3,
+            Initial::None => with_both(numbers, 2, 0),
+            Initial::Number(first) => with_both(numbers, 3, first),
         },
     }
 }
 
-fn first(mode: Mode) -> u32 {
-    match mode {
-        Mode::Plain => 0,
-        Mode::Sorted(number) => number,
-        Mode::Strict(start) => match start {
-            Initial::None => 0,
-            Initial::Number(number) => number,
-        },
-    }
+fn with_both(numbers: Numbers, kind: u32, first: u32) -> Numbers {
+    let one = numbers.with_value(kind);
+    one.with_value(first)
 }
 
-fn show_header(header: Header) {
-    let lanes = header.lanes;
-    let mode = header.mode;
-    let count = header.count;
-    let bytes = header.bytes;
-    number(b",", lanes as u64);
-    number(b",", kind(mode) as u64);
-    number(b",", first(mode) as u64);
-    number(b",", count as u64);
-    number(b",", bytes as u64);
-}
-
-fn run_header(file: &[u8]) {
+// The numbers of a header.
+fn header_numbers(file: &[u8]) -> Numbers {
     let opened = files::header(file);
     let refusal = opened.refusal;
-    number(b" header=", refusal.number() as u64);
     let header = opened.header;
-    show_header(header);
-}
-
-fn run_open(file: &[u8]) {
-    let body = files::open(file);
-    number(b" body=", body.len() as u64);
-    number(b",", bytes_sum(body) as u64);
-}
-
-fn write_into(word: &[u8], lanes: usize, mode: Mode, values: &[u32], output: &mut [u8]) {
-    let written = files::write(lanes, mode, values, output);
-    answer(word, written, bytes_sum(output));
-}
-
-// Written again with so much room.
-fn write_word(word: &[u8], lanes: usize, mode: Mode, values: &[u32], room: usize) {
-    let mut output = marked_bytes();
-    let end = lesser(room, 20000);
-    write_into(word, lanes, mode, values, &mut output[0..end]);
-}
-
-// What was read, written again: with all the room there is, with just enough, and with one byte too little.
-fn run_again(file: &[u8], values: &[u32]) {
-    let opened = files::header(file);
-    let header = opened.header;
-    let lanes = header.lanes;
+    let none = no_numbers();
+    let refused = none.with_value(refusal.number());
     let mode = header.mode;
-    write_word(b" again=", lanes as usize, mode, values, 20000);
-    write_word(b" exact=", lanes as usize, mode, values, file.len());
-    if 0 < file.len() {
-        write_word(b" short=", lanes as usize, mode, values, file.len() - 1);
-    }
-    run_others(lanes as usize, mode, values);
+    let modes = with_mode(refused.with_value(header.lanes), mode);
+    with_both(modes, header.count, header.bytes)
 }
 
-// With 2 lanes; with more values than a list has; and in strict mode from 4,294,967,295.
-fn run_others(lanes: usize, mode: Mode, values: &[u32]) {
-    let many = marked_values();
-    write_word(b" two=", 2, mode, values, 20000);
-    write_word(b" many=", lanes, Mode::Plain, &many, 20000);
-    write_word(
-        b" last=",
-        lanes,
-        Mode::Strict(Initial::Number(4294967295)),
-        values,
-        20000,
-    );
+// Header and open: the numbers of the header, and the body.
+pub(crate) fn show_header(file: &[u8]) {
+    let body = files::open(file);
+    let header = header_numbers(file);
+    let length = header.with(body.len() as u64);
+    let all = length.with_value(bytes_sum(body));
+    all.write(b" header=#,#,#,#,#,# body=#,#");
 }
 
+// Answers the count.
 fn read_into(word: &[u8], file: &[u8], output: &mut [u32]) -> usize {
     let read = files::read(file, output);
-    let length = read.length;
-    answer(word, read, values_sum(output));
-    length
+    line::answer_and_sum(word, read, values_sum(output));
+    read.length
 }
 
-// Read with one value too little room.
-fn run_narrow(file: &[u8], count: usize) {
+// With one value too little room.
+fn read_narrow(file: &[u8], count: usize) {
     let mut output = marked_values();
     if 0 < count {
         let end = lesser(count - 1, 4104);
@@ -131,15 +65,81 @@ fn run_narrow(file: &[u8], count: usize) {
     }
 }
 
-pub(crate) fn run_file(file: &[u8]) {
-    run_header(file);
-    run_open(file);
+// Read.
+pub(crate) fn show_read(file: &[u8]) {
     let mut output = marked_values();
     let count = read_into(b" read=", file, &mut output);
-    run_narrow(file, count);
+    read_narrow(file, count);
+}
+
+// Write: with so much room.
+fn write_into(
+    numbers: Numbers,
+    lanes: usize,
+    mode: Mode,
+    values: &[u32],
+    output: &mut [u8],
+) -> Numbers {
+    let answered = numbers.with_answer(files::write(lanes, mode, values, output));
+    answered.with_value(bytes_sum(output))
+}
+
+fn write(numbers: Numbers, lanes: usize, mode: Mode, values: &[u32], room: usize) -> Numbers {
+    let mut output = marked_bytes();
+    let end = lesser(room, 20000);
+    write_into(numbers, lanes, mode, values, &mut output[0..end])
+}
+
+// With all the room there is, with just enough, and with one byte too little.
+fn write_again(lanes: usize, mode: Mode, values: &[u32], size: usize) {
+    let again = write(no_numbers(), lanes, mode, values, 20000);
+    let exact = write(again, lanes, mode, values, size);
+    let all = write(
+        exact,
+        lanes,
+        mode,
+        values,
+        if 0 < size { size - 1 } else { 0 },
+    );
+    all.write(b" again=#,#,# exact=#,#,# short=#,#,#");
+}
+
+// With 2 lanes; with more values than a list has; and in strict mode from 4,294,967,295.
+fn write_others(lanes: usize, mode: Mode, values: &[u32]) {
+    let marks = marked_values();
+    let two = write(no_numbers(), 2, mode, values, 20000);
+    let many = write(two, lanes, Mode::Plain, &marks, 20000);
+    let all = write(
+        many,
+        lanes,
+        Mode::Strict(Initial::Number(4294967295)),
+        values,
+        20000,
+    );
+    all.write(b" two=#,#,# many=#,#,# last=#,#,#");
+}
+
+fn write_both(lanes: usize, mode: Mode, values: &[u32], size: usize) {
+    write_again(lanes, mode, values, size);
+    write_others(lanes, mode, values);
+}
+
+// What was read, written again.
+fn write_read(lanes: usize, mode: Mode, file: &[u8]) {
+    let mut all = marked_values();
+    let output: &mut [u32] = &mut all;
+    let read = files::read(file, output);
+    let count = read.length;
+    write_both(lanes, mode, first_values(output, count), file.len());
+}
+
+// Where the header is one.
+pub(crate) fn show_written(file: &[u8]) {
     let opened = files::header(file);
     let refusal = opened.refusal;
+    let header = opened.header;
+    let mode = header.mode;
     if refusal.is_accepted() {
-        run_again(file, first_values(&output, count));
+        write_read(header.lanes as usize, mode, file);
     }
 }

@@ -1,26 +1,22 @@
 // A list that is written and read back, and a body that may be wrong, whole or a block of it.
-use crate::buffers::bytes_from;
-use crate::buffers::first_bytes;
-use crate::buffers::first_values;
-use crate::buffers::marked_bytes;
-use crate::calls::read_block_word;
-use crate::calls::read_word;
-use crate::calls::write_word;
+use crate::calls::body_of;
+use crate::calls::read;
+use crate::calls::write;
+use crate::inputs::count;
+use crate::inputs::lanes;
 use crate::inputs::list_of;
-use crate::line;
-use crate::words::AS;
-use crate::words::BYTE;
-use crate::words::COUNT;
-use crate::words::END;
-use crate::words::PACKED;
-use crate::words::ROOM;
-use crate::words::START;
-use crate::words::THEN;
-use crate::words::mode_of;
+use crate::stops::stop;
 use modes::Mode;
+use tables::buffers::first_bytes;
+use tables::buffers::first_values;
 use tables::bytes_sum;
+use tables::lesser;
+use tables::line;
+use tables::line::no_numbers;
+use tables::words::mode;
+use tables::words::number;
+use tables::words::second;
 ghost use mathlib.Core.Path.{_≡_};
-ghost use Prim.Native.Nat.{_≤_};
 ghost use lib.ListN.{length};
 
 // One less, and 0 for 0.
@@ -28,105 +24,114 @@ fn one_less(count: usize) -> usize {
     if count == 0 { 0 } else { count - 1 }
 }
 
-// The body read back: with room to spare, with room for the count, and with room for one value less.
-fn read_back(lanes: usize, mode: Mode, count: usize, body: &[u8]) {
-    let semicolon: &[u8] = b";";
-    read_word(b" read=", lanes, mode, count, body, 4104);
-    read_word(semicolon, lanes, mode, count, body, count);
-    read_word(semicolon, lanes, mode, count, body, one_less(count));
-}
-
 // The list written: with room to spare, with room for its body, and with room for one byte less.
-pub(crate) fn list_case(lanes: usize, mode: Mode, values: &[u32]) {
-    let mut output = marked_bytes();
-    let written = lists::write(lanes, mode, values, &mut output);
-    let length = written.length;
-    let bytes: &[u8] = &output;
-    let semicolon: &[u8] = b";";
-    line::list(b" list=", values, 4);
-    line::answer(b" write=", written, bytes_sum(bytes));
-    write_word(semicolon, lanes, mode, values, length);
-    write_word(semicolon, lanes, mode, values, one_less(length));
-    line::hex(b" body=", first_bytes(bytes, length));
-    read_back(lanes, mode, values.len(), first_bytes(bytes, length));
+fn write_thrice(case: &[u8], values: &[u32], length: usize) {
+    let spare = write(no_numbers(), case, values, 16520);
+    let exact = write(spare, case, values, length);
+    let all = write(exact, case, values, one_less(length));
+    all.write(b" write=#,#,#;#,#,#;#,#,#");
 }
 
-// Puts a byte at a place, where there is such a place. The two are the numbers of a word.
-fn put(bytes: &mut [u8], numbers: [u64; 96], word: usize)
-    requires { ⌜ word ≤ 94 ⌝ }
+// The body read back: with room to spare, with room for the count, and with room for one value less.
+fn read_thrice(case: &[u8], body: &[u8]) {
+    let semicolon: &[u8] = b";";
+    read(b" read=", case, lanes(case), body, 4104);
+    read(semicolon, case, lanes(case), body, count(case));
+    read(semicolon, case, lanes(case), body, one_less(count(case)));
+}
+
+fn list_shown(case: &[u8], values: &[u32]) {
+    let body = body_of(lanes(case), mode(case), values);
+    let all = body.bytes;
+    let bytes = first_bytes(&all, body.length);
+    line::list(b" list=", values, 4);
+    write_thrice(case, values, body.length);
+    line::hex(b" body=", first_bytes(bytes, 12));
+    read_thrice(case, bytes);
+}
+
+pub(crate) fn list_case(case: &[u8]) {
+    let values = list_of(case, count(case));
+    list_shown(case, first_values(&values, count(case)));
+}
+
+// packed=20:32: a body packed of 20 entries and then zeros, 32 in all, which are the values of a plain list; and marks behind it.
+fn packed(case: &[u8]) -> [u8; 16520]
+    ensures { λ r. ⌜ 16520 ≡ length r ⌝ }
 {
-    let place = numbers[word] as usize;
+    let all = list_of(case, number(b'p', case) as usize);
+    let entries = first_values(&all, second(b'p', case) as usize);
+    let body = body_of(lanes(case), Mode::Plain, entries);
+    body.bytes
+}
+
+// byte=3:9, or then=3:9: at place 3, where there is such a place, is the byte 9.
+fn put(letter: u8, case: &[u8], bytes: &mut [u8]) {
+    let place = number(letter, case) as usize;
     if place < bytes.len() {
-        bytes[place] = (numbers[word + 1] % 256) as u8;
+        bytes[place] = (second(letter, case) % 256) as u8;
     }
 }
 
-// A body that is read: its checksum and its first bytes, and what reading answers.
-fn read_case(body: &[u8], numbers: [u64; 96]) {
-    let lanes = numbers[AS] as usize;
-    let count = numbers[COUNT] as usize;
-    let room = numbers[ROOM] as usize;
-    line::bytes(b" body=", body);
-    read_word(b" read=", lanes, mode_of(numbers), count, body, room);
-}
-
-// A block by itself: the same of its bytes, and what the three calls on it answer.
-fn block_case(bytes: &[u8], numbers: [u64; 96]) {
-    let lanes = numbers[AS] as usize;
-    let mode = mode_of(numbers);
-    let count = numbers[COUNT] as usize;
-    line::bytes(b" body=", bytes);
-    line::length(b" frame=", lists::frame(lanes, bytes));
-    line::stop(b" stop=", lists::check_block(lanes, mode, count, bytes));
-    read_block_word(b" read=", lanes, mode, count, bytes, numbers[ROOM] as usize);
-}
-
-// A body packed of entries, which are the values of a plain list, and marks behind it.
-fn packed(lanes: usize, numbers: [u64; 96]) -> [u8; 16520]
-    ensures { λ r. ⌜ 16520 ≡ length r ⌝ }
-{
-    let all = list_of(lanes, numbers[PACKED] as usize, numbers);
-    let entries = first_values(&all, numbers[PACKED + 1] as usize);
-    let mut bytes = marked_bytes();
-    lists::write(lanes, Mode::Plain, entries, &mut bytes);
-    bytes
-}
-
 // A packed body with bytes changed, and marks behind it.
-fn changed(lanes: usize, numbers: [u64; 96]) -> [u8; 16520]
+fn changed(case: &[u8]) -> [u8; 16520]
     ensures { λ r. ⌜ 16520 ≡ length r ⌝ }
 {
-    let mut bytes = packed(lanes, numbers);
-    put(&mut bytes, numbers, BYTE);
-    put(&mut bytes, numbers, THEN);
+    let mut bytes = packed(case);
+    put(b'b', case, &mut bytes);
+    put(b't', case, &mut bytes);
     bytes
 }
 
-// A packed body with bytes changed, up to its end.
-pub(crate) fn body_case(lanes: usize, numbers: [u64; 96]) {
-    let bytes = changed(lanes, numbers);
-    read_case(first_bytes(&bytes, numbers[END] as usize), numbers);
+// The checksum of some bytes, and the first 12 of them.
+fn show_bytes(bytes: &[u8]) {
+    line::named(b" body=", bytes_sum(bytes) as u64);
+    line::hex(b":", first_bytes(bytes, 12));
 }
 
-// Such a body is checked: where that stops.
-pub(crate) fn stop_case(lanes: usize, numbers: [u64; 96]) {
-    let bytes = changed(lanes, numbers);
-    let body = first_bytes(&bytes, numbers[END] as usize);
-    line::bytes(b" body=", body);
-    line::stop(
-        b" stop=",
-        lists::check(
-            numbers[AS] as usize,
-            mode_of(numbers),
-            numbers[COUNT] as usize,
-            body,
-        ),
+// as=4: the lanes with which a body is read.
+fn lanes_read(case: &[u8]) -> usize {
+    number(b'a', case) as usize
+}
+
+// room=31: it is read into so much room.
+fn read_bytes(case: &[u8], bytes: &[u8]) {
+    read(
+        b" read=",
+        case,
+        lanes_read(case),
+        bytes,
+        number(b'r', case) as usize,
     );
 }
 
-// Of such a body the block at a place is framed, checked and read by itself.
-pub(crate) fn part_case(lanes: usize, numbers: [u64; 96]) {
-    let bytes = changed(lanes, numbers);
-    let body = first_bytes(&bytes, numbers[END] as usize);
-    block_case(bytes_from(body, numbers[START] as usize), numbers);
+fn read_body(case: &[u8], body: &[u8]) {
+    show_bytes(body);
+    read_bytes(case, body);
+}
+
+fn check_body(case: &[u8], body: &[u8]) {
+    show_bytes(body);
+    stop(lists::check(lanes_read(case), mode(case), count(case), body));
+}
+
+// start=7: the block that starts at that place is framed, checked and read by itself.
+fn part_of_body(case: &[u8], body: &[u8]) {
+    let start = lesser(number(b's', case) as usize, body.len());
+    let bytes = &body[start..];
+    show_bytes(bytes);
+    line::answer(b" frame=", lists::frame(lanes_read(case), bytes));
+    stop(lists::check_block(lanes_read(case), mode(case), count(case), bytes));
+    read_bytes(case, bytes);
+}
+
+// end=12: the first 12 bytes of such a body are read, or checked, or a block of them.
+pub(crate) fn body_case(kind: u8, case: &[u8]) {
+    let bytes = changed(case);
+    let body = first_bytes(&bytes, number(b'e', case) as usize);
+    match kind {
+        b'b' => read_body(case, body),
+        b's' => check_body(case, body),
+        _ => part_of_body(case, body),
+    }
 }

@@ -1,13 +1,17 @@
 // Bodies of which one byte is changed: each is refused, or is the body of another list.
-use crate::buffers::first_bytes;
-use crate::buffers::first_values;
-use crate::buffers::marked_bytes;
-use crate::buffers::marked_values;
-use crate::buffers::same_bytes;
-use crate::line;
+use crate::calls::body_of;
+use crate::inputs::count;
+use crate::inputs::lanes;
+use crate::inputs::list_of;
 use modes::Mode;
+use tables::buffers::first_bytes;
+use tables::buffers::first_values;
+use tables::buffers::marked_values;
+use tables::buffers::same_bytes;
 use tables::lesser;
+use tables::line;
 use tables::values_sum;
+use tables::words::mode;
 ghost use Prim.Native.Nat.{_≤_};
 
 // The checksum of a buffer that holds nothing but marks.
@@ -28,10 +32,10 @@ fn change(bytes: &mut [u8], i: usize) {
 
 // 0 where writing the values gives the body, and else 12.
 fn again(lanes: usize, mode: Mode, values: &[u32], body: &[u8]) -> u32 {
-    let mut output = marked_bytes();
-    let written = lists::write(lanes, mode, values, &mut output);
-    let length = written.length;
-    if same_bytes(body, first_bytes(&output, length)) {
+    let written = body_of(lanes, mode, values);
+    let bytes = written.bytes;
+    let same = same_bytes(body, &bytes);
+    if same == body.len() && same == written.length {
         0
     } else {
         12
@@ -91,11 +95,12 @@ fn all_changes(lanes: usize, mode: Mode, count: usize, bytes: [u8; 16520], end: 
 }
 
 // The body of a list with one byte changed: how many have the outcome 0, 1 and so on.
-pub(crate) fn change_case(lanes: usize, mode: Mode, values: &[u32]) {
-    let mut bytes = marked_bytes();
-    let written = lists::write(lanes, mode, values, &mut bytes);
-    let end = lesser(written.length, 16520);
-    let tally = all_changes(lanes, mode, values.len(), bytes, end);
+pub(crate) fn change_case(case: &[u8]) {
+    let values = list_of(case, count(case));
+    let body = body_of(lanes(case), mode(case), first_values(&values, count(case)));
+    let end = lesser(body.length, 16520);
+    let bytes = body.bytes;
+    let tally = all_changes(lanes(case), mode(case), count(case), bytes, end);
     let outcomes = tally.outcomes;
     line::list(b" outcomes=", &outcomes, 14);
 }

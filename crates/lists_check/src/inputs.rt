@@ -1,14 +1,25 @@
 // The lists that are written, each made from the words of its case.
-use crate::words::NEXT;
-use crate::words::ODD;
-use crate::words::VALUES;
-use crate::words::last_letter;
-use crate::words::value_of;
 use std::num::wrapping_add_u32;
 use tables::lesser;
+use tables::noise_after;
+use tables::words::letter_at;
+use tables::words::narrow;
+use tables::words::number;
+use tables::words::second;
+use tables::words::value;
 ghost use mathlib.Core.Path.{_≡_};
 ghost use Prim.Native.Nat.{_≤_};
 ghost use lib.ListN.{length};
+
+// lanes=4: the lanes with which a list is written.
+pub(crate) fn lanes(case: &[u8]) -> usize {
+    number(b'l', case) as usize
+}
+
+// count=33: how many values are written, or read.
+pub(crate) fn count(case: &[u8]) -> usize {
+    number(b'c', case) as usize
+}
 
 // How many values a block has.
 fn block_size(lanes: usize) -> usize
@@ -21,11 +32,6 @@ fn block_size(lanes: usize) -> usize
     }
 }
 
-// The next number of a small generator.
-fn next(x: u32) -> u32 {
-    ((x as u64 * 1103515245 + 12345) % 4294967296) as u32
-}
-
 // Number k of noise: the first bits of x, as many as the width of its block, (32 + 17b) mod 33 in block b. In a block's first number they
 // are all 1.
 fn noise(lanes: usize, k: usize, x: u32) -> u32 {
@@ -35,52 +41,67 @@ fn noise(lanes: usize, k: usize, x: u32) -> u32 {
     ((all as u64 >> left_out) % 4294967296) as u32
 }
 
-// Value k: `values=5:2` begins with 5 and goes on by 2 and wraps, `values=noise` is noise, and `values=rising` goes on by more than 0.
-fn value_at(k: usize, rule: u64, step: u32, before: u32, noise: u32) -> u32 {
-    if 4294967295 < rule {
-        if last_letter(rule) == b'g' {
-            return wrapping_add_u32(before, noise / 4096 + 1);
-        }
-        return noise;
-    }
-    if k == 0 {
-        return value_of(rule);
-    }
-    wrapping_add_u32(before, step)
+// The rule of the values: `values=5:2` begins with 5 and goes on by 2 and wraps, `values=noise` is noise, and `values=rising` goes on by
+// more than 0.
+struct Rule {
+    letter: u8,
+    start: u32,
+    step: u32,
 }
 
-// So many values by the word `values`, and then zeros.
-fn by_rule(lanes: usize, count: usize, rule: u64, step: u32) -> [u32; 4104]
+impl Rule {
+    fn value_at(self, k: usize, before: u32, noise: u32) -> u32 {
+        let letter = self.letter;
+        match letter {
+            b'n' => noise,
+            b'r' => wrapping_add_u32(before, noise / 4096 + 1),
+            _ => {
+                if k == 0 {
+                    return self.start;
+                }
+                wrapping_add_u32(before, self.step)
+            }
+        }
+    }
+}
+
+fn rule_of(case: &[u8]) -> Rule {
+    Rule {
+        letter: letter_at(value(b'v', case), 0),
+        start: narrow(number(b'v', case)),
+        step: narrow(second(b'v', case)),
+    }
+}
+
+// So many values by a rule, and then zeros.
+fn by_rule(lanes: usize, count: usize, rule: Rule) -> [u32; 4104]
     ensures { λ r. ⌜ 4104 ≡ length r ⌝ }
 {
     let mut values = [0u32; 4104];
     let mut x = 1;
     let mut before = 0;
     for k in 0..lesser(count, 4104) {
-        x = next(x);
-        before = value_at(k, rule, step, before, noise(lanes, k, x));
+        x = noise_after(x);
+        before = rule.value_at(k, before, noise(lanes, k, x));
         values[k] = before;
     }
     values
 }
 
-// Puts a value at a place, where there is such a place. The two are the numbers of a word.
-fn put(values: &mut [u32], numbers: [u64; 96], word: usize)
-    requires { ⌜ word ≤ 94 ⌝ }
-{
-    let place = numbers[word] as usize;
+// odd=3:9, or next=3:9: at place 3, where there is such a place, is the value 9.
+fn put(letter: u8, case: &[u8], values: &mut [u32]) {
+    let place = number(letter, case) as usize;
     if place < values.len() {
-        values[place] = value_of(numbers[word + 1]);
+        values[place] = narrow(second(letter, case));
     }
 }
 
 // So many values of a case, and then zeros, but for those that have their own word.
-pub(crate) fn list_of(lanes: usize, count: usize, numbers: [u64; 96]) -> [u32; 4104]
+pub(crate) fn list_of(case: &[u8], count: usize) -> [u32; 4104]
     ensures { λ r. ⌜ 4104 ≡ length r ⌝ }
 {
-    let step = value_of(numbers[VALUES + 1]);
-    let mut values = by_rule(lanes, count, numbers[VALUES], step);
-    put(&mut values, numbers, ODD);
-    put(&mut values, numbers, NEXT);
+    let mut values = by_rule(lanes(case), count, rule_of(case));
+    put(b'o', case, &mut values);
+    put(b'n', case, &mut values);
     values
 }

@@ -2,6 +2,8 @@
 use crate::record::Seen;
 use libc::STDIN_FILENO;
 use libc::STDOUT_FILENO;
+use tables::line::named;
+use tables::line::no_numbers;
 
 // How many records were replayed, and how many of the Rust's answers are ours.
 pub(crate) struct Tally {
@@ -32,11 +34,6 @@ impl Tally {
     }
 }
 
-fn word(name: &[u8], number: u32) {
-    io::write_all(STDOUT_FILENO, name);
-    io::print_decimal(STDOUT_FILENO, number as u64);
-}
-
 fn kind_name(kind: u32) {
     match kind {
         0 => {
@@ -56,22 +53,22 @@ fn kind_name(kind: u32) {
 
 // The line of a lane count and a kind of mode.
 pub(crate) fn line(lanes: usize, kind: u32, tally: Tally) {
-    io::write_all(STDOUT_FILENO, b"lanes=");
-    io::print_decimal(STDOUT_FILENO, lanes as u64);
+    named(b"lanes=", lanes as u64);
     kind_name(kind);
-    word(b" records=", tally.records);
-    word(b" unpacked=", tally.values);
-    word(b" packed=", tally.payloads);
-    word(b" least=", tally.leasts);
-    io::write_all(STDOUT_FILENO, b"\n");
+    let none = no_numbers();
+    let records = none.with_value(tally.records);
+    let values = records.with_value(tally.values);
+    let payloads = values.with_value(tally.payloads);
+    let all = payloads.with_value(tally.leasts);
+    all.write(b" records=# unpacked=# packed=# least=#\n");
 }
 
 // The checksum of the whole list, and how many bytes are left of it, up to 8.
 pub(crate) fn end_of_list(sum: u32) {
     let mut rest = [0u8; 8];
     let left = io::read_full(STDIN_FILENO, &mut rest);
-    word(b"sum=", sum);
-    io::write_all(STDOUT_FILENO, b" left=");
-    io::print_decimal(STDOUT_FILENO, left as u64);
-    io::write_all(STDOUT_FILENO, b"\n");
+    let none = no_numbers();
+    let summed = none.with_value(sum);
+    let all = summed.with(left as u64);
+    all.write(b"sum=# left=#\n");
 }

@@ -11,10 +11,10 @@ list-to-text-asks-nothing : AsksNothing list-to-text-kinds.ps list-to-text.Pre
 list-to-text-asks-nothing κs a = tt
 
 list-to-text-determined : Determined list-to-text-kinds.ps list-to-text-kinds.r list-to-text.Post (λ κs e. e .1 .0 .now)
-list-to-text-determined κs a z z′ e e′ p q = (p .0 ∙ sym (q .0), p .1 ∙ sym (q .1))
+list-to-text-determined κs a z z′ e e′ p q = (p .0 ∙ sym (q .0), p .1 .0 ∙ sym (q .1 .0))
 
 text-to-list-asks-nothing : AsksNothing text-to-list-kinds.ps text-to-list.Pre
 text-to-list-asks-nothing κs a = tt
 
 text-to-list-determined : Determined text-to-list-kinds.ps text-to-list-kinds.r text-to-list.Post (λ κs e. e .1 .0 .now)
-text-to-list-determined κs a z z′ e e′ p q = (p .0 ∙ sym (q .0), p .1 ∙ sym (q .1))
+text-to-list-determined κs a z z′ e e′ p q = (p .0 ∙ sym (q .0), p .1 .0 ∙ sym (q .1 .0))

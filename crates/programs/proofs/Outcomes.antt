@@ -4,13 +4,13 @@ use mathlib.Core.Bool.{Bool, true, false, not}
 use mathlib.Core.List.{List}
 use Prim.Native.Nat.{ℕ, _-_, _≤_, _<_}
 use native.Mathlib.Omega.{arith}
-use borrow.Author.Tests.{lt-ltb, le-ltb}
+use borrow.Author.Tests.{lt-ltb, le-ltb, ltb-false}
 use lib.Dec.{ltb, eqb}
 use lib.ListN.{length, take, drop}
 use borrow.Rule.Slice.PartMut.{midOf}
-use lib.Seq.{take-all}
+use lib.Seq.{take-all, length-take-le}
 use Rattle.answers.specs.Answers.{over}
-use Rattle.answers.proofs.Fronts.{take-over}
+use Rattle.answers.proofs.Fronts.{length-over, take-over}
 use Rattle.answers.proofs.Parts.{part-is}
 use Rattle.answers.specs.declared.Answer.{Answer}
 use Rattle.answers.specs.declared.Refusal.{Refusal}
@@ -40,6 +40,32 @@ use Rattle.programs.specs.Programs.{refusedLine, output, listToText, isT
 -- what was handed out for one text was handed out for another that is equal
 pub out-is : {t u : List ℕ} → t ≡ u → (before : List ℕ) {r : Answer} {after : List ℕ} → (r ≡ outAnswer t (length before)) × (after ≡ outLeft t before) → (r ≡ outAnswer u (length before)) × (after ≡ outLeft u before)
 out-is {t} {u} e before {r} {after} h = (h .0 ∙ ap (λ (x : List ℕ). outAnswer x (length before)) e, h .1 ∙ ap (λ (x : List ℕ). outLeft x before) e)
+
+out-within : (t : List ℕ) (room : ℕ) → outAnswer t room .length ≤ room
+out-within t room = go (ltb room (length t)) refl
+  where
+    go : (b : Bool) → ltb room (length t) ≡ b → outAnswer t room .length ≤ room
+    go true q = rw q (omega arith)
+    go false q = rw q (ltb-false room (length t) q)
+
+answer-within : (t : List ℕ) (room : ℕ) {r : Answer} → r ≡ outAnswer t room → r .length ≤ room
+answer-within t room e = rw e (out-within t room)
+
+-- handing out keeps the length
+left-length : (t before : List ℕ) → length (outLeft t before) ≡ length before
+left-length t before = go (ltb (length before) (length t)) refl
+  where
+    go : (b : Bool) → ltb (length before) (length t) ≡ b → length (outLeft t before) ≡ length before
+    go true q = rw q refl
+    go false q = rw q (length-over t before (ltb-false (length before) (length t) q))
+
+-- and what was handed out lies within it, for a caller that takes that part
+pub out-whole : {t u : List ℕ} → t ≡ u → (before : List ℕ) {r : Answer} {after : List ℕ} → (r ≡ outAnswer t (length before)) × (after ≡ outLeft t before)
+    → (r ≡ outAnswer u (length before)) × ((after ≡ outLeft u before) × ((r .length ≤ length after) × (r .length ≡ length (take (r .length) after))))
+out-whole {t} {u} e before {r} {after} h =
+    let w : r .length ≤ length after = omega (arith, answer-within t (length before) (h .0), ap length (h .1) ∙ left-length t before) in
+    let o = out-is e before h in
+    (o .0, (o .1, (w, sym (length-take-le (r .length) after w))))
 
 -- from a file
 

@@ -128,18 +128,11 @@ file-short text =
 pub whole-answer : (t : List ℕ) (room : ℕ) → length t ≤ room → outAnswer t room ≡ record { refusal = Accepted; length = length t }
 whole-answer t room h = rw (le-ltb room (length t) h)
 
+pub all-out : (t : List ℕ) {n : ℕ} → length t ≤ n → {r : Answer} → r ≡ outAnswer t n → r .refusal ≡ Accepted
+all-out t {n} short e = ap (λ (a : Answer). a .refusal) (e ∙ whole-answer t n short)
+
 pub whole-left : (t before : List ℕ) → length t ≤ length before → outLeft t before ≡ over t before
 whole-left t before h = rw (le-ltb (length before) (length t) h)
-
-out-within : (t : List ℕ) (room : ℕ) → outAnswer t room .length ≤ room
-out-within t room = go (ltb room (length t)) refl
-  where
-    go : (b : Bool) → ltb room (length t) ≡ b → outAnswer t room .length ≤ room
-    go true q = rw q (omega arith)
-    go false q = rw q (ltb-false room (length t) q)
-
-pub answer-within : (t : List ℕ) (room : ℕ) {r : Answer} → r ≡ outAnswer t room → r .length ≤ room
-answer-within t room e = rw e (out-within t room)
 
 -- which numbers arise
 

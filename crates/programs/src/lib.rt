@@ -10,7 +10,7 @@ use text::put;
 use text::put_number_line;
 ghost use mathlib.Core.Path.{_≡_};
 ghost use Prim.Native.Nat.{_≤_};
-ghost use lib.ListN.{length};
+ghost use lib.ListN.{length, take};
 ghost use Rattle.bodies.specs.List.{most};
 ghost use Rattle.lists.specs.Calls.{measureRefusal};
 ghost use Rattle.files.specs.Calls.{fileFor};
@@ -82,6 +82,7 @@ fn hand_out_file(lanes: usize, mode: Mode, values: &[u32], out: &mut [u8]) -> An
 pub fn list_to_text(file: &[u8], out: &mut [u8]) -> Answer
     ensures { λ r. ⌜ r ≡ outAnswer (listToText (now (file .entry))) (length (now (out .entry))) ⌝ }
     ensures { λ r. ⌜ now (out .exit) ≡ outLeft (listToText (now (file .entry))) (now (out .entry)) ⌝ }
+    ensures { λ r. ⌜ (r .length ≤ length (now (out .exit))) × (r .length ≡ length (take (r .length) (now (out .exit)))) ⌝ }
 {
     if LIMIT < file.len() {
         return refuse(Refusal::BadHeader, out);
@@ -100,6 +101,7 @@ pub fn list_to_text(file: &[u8], out: &mut [u8]) -> Answer
 pub fn text_to_list(text: &[u8], out: &mut [u8]) -> Answer
     ensures { λ r. ⌜ r ≡ outAnswer (textToList (now (text .entry))) (length (now (out .entry))) ⌝ }
     ensures { λ r. ⌜ now (out .exit) ≡ outLeft (textToList (now (text .entry))) (now (out .entry)) ⌝ }
+    ensures { λ r. ⌜ (r .length ≤ length (now (out .exit))) × (r .length ≡ length (take (r .length) (now (out .exit)))) ⌝ }
 {
     if LIMIT < text.len() {
         return refuse(Refusal::BadHeader, out);

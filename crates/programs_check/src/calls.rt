@@ -1,26 +1,11 @@
 // One program on one input: a word with what it answers, and the checksum of its output afterwards.
-use crate::buffers::marked_bytes;
 use answers::Answer;
-use libc::STDOUT_FILENO;
 use programs::list_to_text;
 use programs::text_to_list;
+use tables::buffers::marked_bytes;
 use tables::bytes_sum;
 use tables::lesser;
-
-fn number(word: &[u8], value: u64) {
-    io::write_all(STDOUT_FILENO, word);
-    io::print_decimal(STDOUT_FILENO, value);
-}
-
-// The number of the refusal, the length, and the checksum of the output afterwards.
-fn answer(word: &[u8], value: Answer, sum: u32) {
-    let refusal = value.refusal;
-    let length = value.length;
-    let comma: &[u8] = b",";
-    number(word, refusal.number() as u64);
-    number(comma, length as u64);
-    number(comma, sum as u64);
-}
+use tables::line;
 
 // The program that a letter stands for: r reads a list file, and w writes one.
 fn call(letter: u8, input: &[u8], output: &mut [u8]) -> Answer {
@@ -32,9 +17,8 @@ fn call(letter: u8, input: &[u8], output: &mut [u8]) -> Answer {
 
 fn call_into(word: &[u8], letter: u8, input: &[u8], output: &mut [u8]) -> usize {
     let put = call(letter, input, output);
-    let length = put.length;
-    answer(word, put, bytes_sum(output));
-    length
+    line::answer_and_sum(word, put, bytes_sum(output));
+    put.length
 }
 
 // Called with so much room. Answers the length of what was written.

@@ -5,11 +5,15 @@ use calls::run_program;
 use libc::STDIN_FILENO;
 use libc::STDOUT_FILENO;
 use pieces::put_pieces;
-use tables::place_of;
+use tables::buffers::first_bytes;
+use tables::buffers::table_room;
+use tables::line;
+use tables::words::before;
+use tables::words::behind;
+use tables::words::letter_at;
 ghost use mathlib.Core.Path.{_≡_};
 ghost use lib.ListN.{length};
 
-mod buffers;
 mod calls;
 mod pieces;
 
@@ -20,44 +24,28 @@ fn input_room() -> [u8; 65540]
     [0; 65540]
 }
 
-// The letter at the front of a text, and 0 where there is none.
-fn first_letter(text: &[u8]) -> u8 {
-    if 0 < text.len() { text[0] } else { 0 }
-}
-
 // The letter of the program, and the pieces.
 fn run_case(text: &[u8]) {
     let mut bytes = input_room();
     let size = put_pieces(text, &mut bytes);
-    run_program(first_letter(text), &bytes[..size]);
+    run_program(letter_at(text, 0), first_bytes(&bytes, size));
 }
 
 // A line of the table: the name up to the first blank, and the case.
 fn run_line(line: &[u8]) {
-    let end = place_of(b' ', line);
-    io::write_all(STDOUT_FILENO, &line[..end]);
-    if end < line.len() {
-        run_case(&line[end + 1..]);
-    }
-    io::write_all(STDOUT_FILENO, b"\n");
+    io::write_all(STDOUT_FILENO, before(b' ', line));
+    run_case(behind(b' ', line));
+    line::end();
 }
 
 // Every line of a text.
 fn run_all(text: &[u8]) {
-    let mut start: usize = 0;
-    for i in 0..text.len() {
-        if text[i] == b'\n' {
-            run_line(&text[start..i]);
-            start = i + 1;
-        }
+    let mut rest = text;
+    while 0 < rest.len() {
+        run_line(before(b'\n', rest));
+        let next = behind(b'\n', rest);
+        rest = next;
     }
-}
-
-// More bytes than the table has.
-fn table_room() -> [u8; 131072]
-    ensures { λ r. ⌜ 131072 ≡ length r ⌝ }
-{
-    [0; 131072]
 }
 
 fn main() {

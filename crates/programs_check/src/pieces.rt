@@ -1,6 +1,8 @@
 // The input of a case, made from its pieces. A piece is bytes in hex, and behind them, where they repeat, `*` and how many times.
 use tables::decode;
-use tables::place_of;
+use tables::words::before;
+use tables::words::behind;
+use tables::words::decimal;
 ghost use Prim.Native.Nat.{_≤_};
 ghost use lib.ListN.{length};
 
@@ -15,36 +17,18 @@ fn repeat(text: &[u8], times: usize, bytes: &mut [u8]) -> usize
     size
 }
 
-// A number with one digit more.
-fn with_digit(number: usize, letter: u8) -> usize {
-    number % 100000 * 10 + letter as usize % 48
-}
-
-// A decimal number of up to six digits.
-fn decimal(text: &[u8]) -> usize {
-    let mut number: usize = 0;
-    for i in 0..text.len() {
-        number = with_digit(number, text[i]);
-    }
-    number
-}
-
 // How many times: the number behind the `*`, and once where there is none.
-fn times(text: &[u8]) -> usize {
-    if text.len() == 0 {
-        return 1;
-    }
-    decimal(&text[1..])
+fn times(piece: &[u8]) -> usize {
+    let times = decimal(behind(b'*', piece));
+    if times < 1000000 { times as usize } else { 1 }
 }
 
 // The bytes of the piece at the front of a text. Answers how many.
 fn put_piece(text: &[u8], bytes: &mut [u8]) -> usize
     ensures { λ r. ⌜ r ≤ length (now (bytes .exit)) ⌝ }
 {
-    let end = place_of(b' ', text);
-    let piece = &text[..end];
-    let star = place_of(b'*', piece);
-    repeat(&piece[..star], times(&piece[star..]), bytes)
+    let piece = before(b' ', text);
+    repeat(before(b'*', piece), times(piece), bytes)
 }
 
 // The bytes of all pieces, each with a blank before it. Answers how many.

@@ -4,6 +4,8 @@ use mathlib.Core.Path.{refl, sym, _∙_}
 use Rattle.answers.proofs.Contracts.{AsksNothing, AnswerDetermined, SeenDetermined, Determined}
 use Rattle.tables.proofs.lesser.Reads as lesser
 use Rattle.tables.proofs.lesser.Kinds as lesser-kinds
+use Rattle.tables.proofs.bytes_sum_from.Reads as bytes-sum-from
+use Rattle.tables.proofs.bytes_sum_from.Kinds as bytes-sum-from-kinds
 use Rattle.tables.proofs.bytes_sum.Reads as bytes-sum
 use Rattle.tables.proofs.bytes_sum.Kinds as bytes-sum-kinds
 use Rattle.tables.proofs.values_sum.Reads as values-sum
@@ -12,6 +14,10 @@ use Rattle.tables.proofs.decode.Reads as decode
 use Rattle.tables.proofs.decode.Kinds as decode-kinds
 use Rattle.tables.proofs.place_of.Reads as place-of
 use Rattle.tables.proofs.place_of.Kinds as place-of-kinds
+use Rattle.tables.proofs.wide.Reads as wide
+use Rattle.tables.proofs.wide.Kinds as wide-kinds
+use Rattle.tables.proofs.noise_after.Reads as noise-after
+use Rattle.tables.proofs.noise_after.Kinds as noise-after-kinds
 use Rattle.tables.proofs.buffers.table_room.Reads as table-room
 use Rattle.tables.proofs.buffers.table_room.Kinds as table-room-kinds
 use Rattle.tables.proofs.buffers.marked_bytes.Reads as marked-bytes
@@ -26,42 +32,28 @@ use Rattle.tables.proofs.buffers.same_bytes.Reads as same-bytes
 use Rattle.tables.proofs.buffers.same_bytes.Kinds as same-bytes-kinds
 use Rattle.tables.proofs.buffers.same_values.Reads as same-values
 use Rattle.tables.proofs.buffers.same_values.Kinds as same-values-kinds
-use Rattle.tables.proofs.wide.Reads as wide
-use Rattle.tables.proofs.wide.Kinds as wide-kinds
-use Rattle.tables.proofs.noise_after.Reads as noise-after
-use Rattle.tables.proofs.noise_after.Kinds as noise-after-kinds
-use Rattle.tables.proofs.line.number.Reads as line-number
-use Rattle.tables.proofs.line.number.Kinds as line-number-kinds
-use Rattle.tables.proofs.line.answer.Reads as answer
-use Rattle.tables.proofs.line.answer.Kinds as answer-kinds
-use Rattle.tables.proofs.line.answer_and_sum.Reads as answer-and-sum
-use Rattle.tables.proofs.line.answer_and_sum.Kinds as answer-and-sum-kinds
-use Rattle.tables.proofs.line.list.Reads as list-call
-use Rattle.tables.proofs.line.list.Kinds as list-call-kinds
-use Rattle.tables.proofs.line.hex.Reads as hex
-use Rattle.tables.proofs.line.hex.Kinds as hex-kinds
-use Rattle.tables.proofs.line.end.Reads as end-call
-use Rattle.tables.proofs.line.end.Kinds as end-call-kinds
 use Rattle.tables.proofs.words.letter_at.Reads as letter-at
 use Rattle.tables.proofs.words.letter_at.Kinds as letter-at-kinds
-use Rattle.tables.proofs.words.before.Reads as before-call
-use Rattle.tables.proofs.words.before.Kinds as before-call-kinds
+use Rattle.tables.proofs.words.before.Reads as before
+use Rattle.tables.proofs.words.before.Kinds as before-kinds
 use Rattle.tables.proofs.words.behind.Reads as behind
 use Rattle.tables.proofs.words.behind.Kinds as behind-kinds
-use Rattle.tables.proofs.words.value.Reads as value-call
-use Rattle.tables.proofs.words.value.Kinds as value-call-kinds
+use Rattle.tables.proofs.words.value.Reads as value
+use Rattle.tables.proofs.words.value.Kinds as value-kinds
 use Rattle.tables.proofs.words.decimal.Reads as decimal
 use Rattle.tables.proofs.words.decimal.Kinds as decimal-kinds
-use Rattle.tables.proofs.words.number.Reads as words-number
-use Rattle.tables.proofs.words.number.Kinds as words-number-kinds
+use Rattle.tables.proofs.words.number.Reads as number
+use Rattle.tables.proofs.words.number.Kinds as number-kinds
 use Rattle.tables.proofs.words.second.Reads as second
 use Rattle.tables.proofs.words.second.Kinds as second-kinds
 use Rattle.tables.proofs.words.narrow.Reads as narrow
 use Rattle.tables.proofs.words.narrow.Kinds as narrow-kinds
-use Rattle.tables.proofs.words.mode.Reads as mode-call
-use Rattle.tables.proofs.words.mode.Kinds as mode-call-kinds
+use Rattle.tables.proofs.words.mode.Reads as mode
+use Rattle.tables.proofs.words.mode.Kinds as mode-kinds
 use Rattle.tables.proofs.words.put_values.Reads as put-values
 use Rattle.tables.proofs.words.put_values.Kinds as put-values-kinds
+use Rattle.tables.proofs.words.given_values.Reads as given-values
+use Rattle.tables.proofs.words.given_values.Kinds as given-values-kinds
 use Rattle.tables.proofs.line.no_numbers.Reads as no-numbers
 use Rattle.tables.proofs.line.no_numbers.Kinds as no-numbers-kinds
 use Rattle.tables.proofs.line.Numbers.with.Reads as with-call
@@ -72,14 +64,30 @@ use Rattle.tables.proofs.line.Numbers.with_answer.Reads as with-answer
 use Rattle.tables.proofs.line.Numbers.with_answer.Kinds as with-answer-kinds
 use Rattle.tables.proofs.line.Numbers.write.Reads as write
 use Rattle.tables.proofs.line.Numbers.write.Kinds as write-kinds
-use Rattle.tables.proofs.words.given_values.Reads as given-values
-use Rattle.tables.proofs.words.given_values.Kinds as given-values-kinds
+use Rattle.tables.proofs.line.named.Reads as named
+use Rattle.tables.proofs.line.named.Kinds as named-kinds
+use Rattle.tables.proofs.line.answer.Reads as answer
+use Rattle.tables.proofs.line.answer.Kinds as answer-kinds
+use Rattle.tables.proofs.line.answer_and_sum.Reads as answer-and-sum
+use Rattle.tables.proofs.line.answer_and_sum.Kinds as answer-and-sum-kinds
+use Rattle.tables.proofs.line.list.Reads as list-call
+use Rattle.tables.proofs.line.list.Kinds as list-call-kinds
+use Rattle.tables.proofs.line.hex.Reads as hex
+use Rattle.tables.proofs.line.hex.Kinds as hex-kinds
+use Rattle.tables.proofs.line.end.Reads as end-call
+use Rattle.tables.proofs.line.end.Kinds as end-call-kinds
 
 lesser-asks-nothing : AsksNothing lesser-kinds.ps lesser.Pre
 lesser-asks-nothing κs a = tt
 
 lesser-determined : AnswerDetermined lesser-kinds.ps lesser-kinds.r lesser.Post
 lesser-determined κs a z z′ e e′ p q = p .0 ∙ sym (q .0)
+
+bytes-sum-from-asks-nothing : AsksNothing bytes-sum-from-kinds.ps bytes-sum-from.Pre
+bytes-sum-from-asks-nothing κs a = tt
+
+bytes-sum-from-determined : AnswerDetermined bytes-sum-from-kinds.ps bytes-sum-from-kinds.r bytes-sum-from.Post
+bytes-sum-from-determined κs a z z′ e e′ p q = p ∙ sym q
 
 bytes-sum-asks-nothing : AsksNothing bytes-sum-kinds.ps bytes-sum.Pre
 bytes-sum-asks-nothing κs a = tt
@@ -104,6 +112,18 @@ place-of-asks-nothing κs a = tt
 
 place-of-determined : AnswerDetermined place-of-kinds.ps place-of-kinds.r place-of.Post
 place-of-determined κs a z z′ e e′ p q = p .0 ∙ sym (q .0)
+
+wide-asks-nothing : AsksNothing wide-kinds.ps wide.Pre
+wide-asks-nothing κs a = tt
+
+wide-determined : AnswerDetermined wide-kinds.ps wide-kinds.r wide.Post
+wide-determined κs a z z′ e e′ p q = p .0 ∙ sym (q .0)
+
+noise-after-asks-nothing : AsksNothing noise-after-kinds.ps noise-after.Pre
+noise-after-asks-nothing κs a = tt
+
+noise-after-determined : AnswerDetermined noise-after-kinds.ps noise-after-kinds.r noise-after.Post
+noise-after-determined κs a z z′ e e′ p q = p ∙ sym q
 
 table-room-asks-nothing : AsksNothing table-room-kinds.ps table-room.Pre
 table-room-asks-nothing κs a = tt
@@ -147,46 +167,16 @@ same-values-asks-nothing κs a = tt
 same-values-determined : AnswerDetermined same-values-kinds.ps same-values-kinds.r same-values.Post
 same-values-determined κs a z z′ e e′ p q = p ∙ sym q
 
-wide-asks-nothing : AsksNothing wide-kinds.ps wide.Pre
-wide-asks-nothing κs a = tt
-
-wide-determined : AnswerDetermined wide-kinds.ps wide-kinds.r wide.Post
-wide-determined κs a z z′ e e′ p q = p .0 ∙ sym (q .0)
-
-noise-after-asks-nothing : AsksNothing noise-after-kinds.ps noise-after.Pre
-noise-after-asks-nothing κs a = tt
-
-noise-after-determined : AnswerDetermined noise-after-kinds.ps noise-after-kinds.r noise-after.Post
-noise-after-determined κs a z z′ e e′ p q = p ∙ sym q
-
-line-number-asks-nothing : AsksNothing line-number-kinds.ps line-number.Pre
-line-number-asks-nothing κs a = tt
-
-answer-asks-nothing : AsksNothing answer-kinds.ps answer.Pre
-answer-asks-nothing κs a = tt
-
-answer-and-sum-asks-nothing : AsksNothing answer-and-sum-kinds.ps answer-and-sum.Pre
-answer-and-sum-asks-nothing κs a = tt
-
-list-asks-nothing : AsksNothing list-call-kinds.ps list-call.Pre
-list-asks-nothing κs a = tt
-
-hex-asks-nothing : AsksNothing hex-kinds.ps hex.Pre
-hex-asks-nothing κs a = tt
-
-end-asks-nothing : AsksNothing end-call-kinds.ps end-call.Pre
-end-asks-nothing κs a = tt
-
 letter-at-asks-nothing : AsksNothing letter-at-kinds.ps letter-at.Pre
 letter-at-asks-nothing κs a = tt
 
 letter-at-determined : AnswerDetermined letter-at-kinds.ps letter-at-kinds.r letter-at.Post
 letter-at-determined κs a z z′ e e′ p q = p ∙ sym q
 
-before-asks-nothing : AsksNothing before-call-kinds.ps before-call.Pre
+before-asks-nothing : AsksNothing before-kinds.ps before.Pre
 before-asks-nothing κs a = tt
 
-before-determined : SeenDetermined before-call-kinds.ps before-call-kinds.r before-call.Post (λ κs z. z .now)
+before-determined : SeenDetermined before-kinds.ps before-kinds.r before.Post (λ κs z. z .now)
 before-determined κs a z z′ e e′ p q = p ∙ sym q
 
 behind-asks-nothing : AsksNothing behind-kinds.ps behind.Pre
@@ -195,10 +185,10 @@ behind-asks-nothing κs a = tt
 behind-determined : SeenDetermined behind-kinds.ps behind-kinds.r behind.Post (λ κs z. z .now)
 behind-determined κs a z z′ e e′ p q = p .0 ∙ sym (q .0)
 
-value-asks-nothing : AsksNothing value-call-kinds.ps value-call.Pre
+value-asks-nothing : AsksNothing value-kinds.ps value.Pre
 value-asks-nothing κs a = tt
 
-value-determined : SeenDetermined value-call-kinds.ps value-call-kinds.r value-call.Post (λ κs z. z .now)
+value-determined : SeenDetermined value-kinds.ps value-kinds.r value.Post (λ κs z. z .now)
 value-determined κs a z z′ e e′ p q = p ∙ sym q
 
 decimal-asks-nothing : AsksNothing decimal-kinds.ps decimal.Pre
@@ -207,11 +197,11 @@ decimal-asks-nothing κs a = tt
 decimal-determined : AnswerDetermined decimal-kinds.ps decimal-kinds.r decimal.Post
 decimal-determined κs a z z′ e e′ p q = p ∙ sym q
 
-words-number-asks-nothing : AsksNothing words-number-kinds.ps words-number.Pre
-words-number-asks-nothing κs a = tt
+number-asks-nothing : AsksNothing number-kinds.ps number.Pre
+number-asks-nothing κs a = tt
 
-words-number-determined : AnswerDetermined words-number-kinds.ps words-number-kinds.r words-number.Post
-words-number-determined κs a z z′ e e′ p q = p ∙ sym q
+number-determined : AnswerDetermined number-kinds.ps number-kinds.r number.Post
+number-determined κs a z z′ e e′ p q = p ∙ sym q
 
 second-asks-nothing : AsksNothing second-kinds.ps second.Pre
 second-asks-nothing κs a = tt
@@ -225,10 +215,10 @@ narrow-asks-nothing κs a = tt
 narrow-determined : AnswerDetermined narrow-kinds.ps narrow-kinds.r narrow.Post
 narrow-determined κs a z z′ e e′ p q = p ∙ sym q
 
-mode-asks-nothing : AsksNothing mode-call-kinds.ps mode-call.Pre
+mode-asks-nothing : AsksNothing mode-kinds.ps mode.Pre
 mode-asks-nothing κs a = tt
 
-mode-determined : AnswerDetermined mode-call-kinds.ps mode-call-kinds.r mode-call.Post
+mode-determined : AnswerDetermined mode-kinds.ps mode-kinds.r mode.Post
 mode-determined κs a z z′ e e′ p q = p ∙ sym q
 
 put-values-asks-nothing : AsksNothing put-values-kinds.ps put-values.Pre
@@ -236,6 +226,12 @@ put-values-asks-nothing κs a = tt
 
 put-values-determined : Determined put-values-kinds.ps put-values-kinds.r put-values.Post (λ κs e. e .1 .1 .0 .now)
 put-values-determined κs a z z′ e e′ p q = (refl, p ∙ sym q)
+
+given-values-asks-nothing : AsksNothing given-values-kinds.ps given-values.Pre
+given-values-asks-nothing κs a = tt
+
+given-values-determined : AnswerDetermined given-values-kinds.ps given-values-kinds.r given-values.Post
+given-values-determined κs a z z′ e e′ p q = p .0 ∙ sym (q .0)
 
 no-numbers-asks-nothing : AsksNothing no-numbers-kinds.ps no-numbers.Pre
 no-numbers-asks-nothing κs a = tt
@@ -264,8 +260,20 @@ with-answer-determined κs a z z′ e e′ p q = p ∙ sym q
 write-asks-nothing : AsksNothing write-kinds.ps write.Pre
 write-asks-nothing κs a = tt
 
-given-values-asks-nothing : AsksNothing given-values-kinds.ps given-values.Pre
-given-values-asks-nothing κs a = tt
+named-asks-nothing : AsksNothing named-kinds.ps named.Pre
+named-asks-nothing κs a = tt
 
-given-values-determined : AnswerDetermined given-values-kinds.ps given-values-kinds.r given-values.Post
-given-values-determined κs a z z′ e e′ p q = p .0 ∙ sym (q .0)
+answer-asks-nothing : AsksNothing answer-kinds.ps answer.Pre
+answer-asks-nothing κs a = tt
+
+answer-and-sum-asks-nothing : AsksNothing answer-and-sum-kinds.ps answer-and-sum.Pre
+answer-and-sum-asks-nothing κs a = tt
+
+list-asks-nothing : AsksNothing list-call-kinds.ps list-call.Pre
+list-asks-nothing κs a = tt
+
+hex-asks-nothing : AsksNothing hex-kinds.ps hex.Pre
+hex-asks-nothing κs a = tt
+
+end-asks-nothing : AsksNothing end-call-kinds.ps end-call.Pre
+end-asks-nothing κs a = tt

@@ -5,7 +5,7 @@ ghost use Prim.Native.Nat.{_+_, _*_, _/_, _%_, _≤_, _<_, min};
 ghost use lib.ListN.{length, take};
 ghost use Rattle.layout.specs.Layout.{table};
 ghost use Rattle.answers.specs.Answers.{over};
-ghost use Rattle.tables.specs.Tables.{checksum, digitOf, hexByte, noiseAfter, placeOf};
+ghost use Rattle.tables.specs.Tables.{checksum, sumFrom, digitOf, hexByte, noiseAfter, placeOf};
 
 pub mod buffers;
 pub mod line;
@@ -33,17 +33,24 @@ pub fn wide(byte: u8) -> u32
     byte as u32
 }
 
-// The checksum of some bytes.
-pub fn bytes_sum(bytes: &[u8]) -> u32
-    ensures { λ r. ⌜ r ≡ checksum (now (bytes .entry)) ⌝ }
+// A checksum with some bytes more in it.
+pub fn bytes_sum_from(start: u32, bytes: &[u8]) -> u32
+    ensures { λ r. ⌜ r ≡ sumFrom start (now (bytes .entry)) ⌝ }
 {
-    let mut sum: u32 = 0;
+    let mut sum: u32 = start;
     let mut i: usize = 0;
     while i < bytes.len() {
         sum = added(sum, wide(bytes[i]));
         i += 1;
     }
     sum
+}
+
+// The checksum of some bytes.
+pub fn bytes_sum(bytes: &[u8]) -> u32
+    ensures { λ r. ⌜ r ≡ checksum (now (bytes .entry)) ⌝ }
+{
+    bytes_sum_from(0, bytes)
 }
 
 // The checksum of some values.

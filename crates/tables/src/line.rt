@@ -10,7 +10,7 @@ ghost use Rattle.answers.specs.Refusals.{numberOf};
 ghost use Rattle.tables.specs.Numbers.{noNumbers, withNumber};
 
 // A word, which comes with the blank before it and the `=` behind its name, and a number.
-pub fn number(word: &[u8], value: u64) {
+pub fn named(word: &[u8], value: u64) {
     io::write_all(STDOUT_FILENO, word);
     io::print_decimal(STDOUT_FILENO, value);
 }
@@ -81,27 +81,27 @@ impl Numbers {
 // A word and what a call answers, the number of the refusal and the length.
 pub fn answer(word: &[u8], value: Answer) {
     let refusal = value.refusal;
-    number(word, refusal.number() as u64);
-    number(b",", value.length as u64);
+    named(word, refusal.number() as u64);
+    named(b",", value.length as u64);
 }
 
 // And the checksum of its output afterwards.
 pub fn answer_and_sum(word: &[u8], value: Answer, sum: u32) {
     answer(word, value);
-    number(b",", sum as u64);
+    named(b",", sum as u64);
 }
 
 fn item(place: usize, value: u32) {
     if place == 0 {
-        number(b":", value as u64);
+        named(b":", value as u64);
     } else {
-        number(b",", value as u64);
+        named(b",", value as u64);
     }
 }
 
 // A word and the checksum of some values, and the first of them, no more than `shown`.
 pub fn list(word: &[u8], values: &[u32], shown: usize) {
-    number(word, values_sum(values) as u64);
+    named(word, values_sum(values) as u64);
     for i in 0..lesser(shown, values.len()) {
         item(i, values[i]);
     }

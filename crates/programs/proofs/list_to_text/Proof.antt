@@ -11,7 +11,7 @@ use Rattle.answers.specs.Refusals.{accepted}
 use Rattle.bodies.specs.List.{most}
 use Rattle.files.specs.Calls.{listIn, readFileRefusal}
 use Rattle.programs.specs.Lines.{valueLines}
-use Rattle.programs.proofs.Outcomes.{out-is, file-too-long, file-refused, file-accepted, list-few, list-told}
+use Rattle.programs.proofs.Outcomes.{out-whole, file-too-long, file-refused, file-accepted, list-few, list-told}
 use borrow.Author.Needs.{needs}
 use Rattle.programs.proofs.list_to_text.Statement.{statement}
 use Rattle.programs.proofs.list_to_text.Tie as tie
@@ -21,7 +21,7 @@ returns c =
     let r = c .before .before in
     let t = r .before .before in
     let s = t .before .before .before in
-    out-is (file-too-long (s .args .file .now) (t .if1 .taken)) (s .args .out .now) (r .refuse .ensures)
+    out-whole (file-too-long (s .args .file .now) (t .if1 .taken)) (s .args .out .now) (r .refuse .ensures)
 
 returns-2 : tie.Need-returns-2
 returns-2 c =
@@ -31,7 +31,7 @@ returns-2 c =
     let d = i .before .before in
     let e = d .before .before in
     let s = e .before .before .before in
-    out-is (file-refused (s .args .file .now) (e .if1 .left) _ (ap (λ (a : Answer). a .refusal) (d .read .ensures .0)) (denied (i .is-accepted .ensures) (t .if2 .taken))) (s .args .out .now) (r .refuse2 .ensures)
+    out-whole (file-refused (s .args .file .now) (e .if1 .left) _ (ap (λ (a : Answer). a .refusal) (d .read .ensures .0)) (denied (i .is-accepted .ensures) (t .if2 .taken))) (s .args .out .now) (r .refuse2 .ensures)
 
 abbrev start : tie.Else2 → tie.Start
 start c = c .before .before .before .before .before .before .before .before
@@ -70,7 +70,7 @@ returns-3 c =
     let e = h .before .before .before in
     let g = e .before .before .before .before .before in
     let s = g .before .before .before in
-    out-is (ap valueLines (told e .1) ∙ file-accepted (s .args .file .now) (g .if1 .left) (good e)) (s .args .out .now) (h .hand-out-values .ensures)
+    out-whole (ap valueLines (told e .1) ∙ file-accepted (s .args .file .now) (g .if1 .left) (good e)) (s .args .out .now) (h .hand-out-values .ensures)
 
 pub list-to-text-spec : {M : Type 1} → statement M
 list-to-text-spec =

@@ -14,7 +14,7 @@ use Rattle.files.specs.kernel.Finding.{settingsIn}
 use Rattle.files.specs.Calls.{fileFor}
 use Rattle.files.proofs.Tests.{settings-within}
 use Rattle.programs.specs.Programs.{refusedLine, output, valuesIn}
-use Rattle.programs.proofs.Outcomes.{out-is, text-too-long, no-settings, not-lines, too-many, list-out, LinesTold, lines-told, values-kept}
+use Rattle.programs.proofs.Outcomes.{out-whole, text-too-long, no-settings, not-lines, too-many, list-out, LinesTold, lines-told, values-kept}
 use borrow.Author.Needs.{needs}
 use Rattle.programs.proofs.text_to_list.Statement.{statement}
 use Rattle.programs.proofs.text_to_list.Tie as tie
@@ -24,7 +24,7 @@ returns c =
     let r = c .before .before in
     let t = r .before .before in
     let s = t .before .before .before in
-    out-is (text-too-long (s .args .text .now) (t .if1 .taken)) (s .args .out .now) (r .refuse .ensures)
+    out-whole (text-too-long (s .args .text .now) (t .if1 .taken)) (s .args .out .now) (r .refuse .ensures)
 
 -- what the settings told
 said : (i : tie.After-is-accepted) → i .is-accepted .result ≡ isSettings (i .before .before .before .before .before .args .text .now)
@@ -38,7 +38,7 @@ returns-2 c =
     let g = i .before in
     let e = g .before in
     let s = e .before .before .before in
-    out-is (ap (λ (p : SettingsFound). refusedLine (p .refusal)) (g .settings .ensures) ∙ no-settings (s .args .text .now) (e .if1 .left) (denied (said i) (t .if2 .taken))) (s .args .out .now) (r .refuse2 .ensures)
+    out-whole (ap (λ (p : SettingsFound). refusedLine (p .refusal)) (g .settings .ensures) ∙ no-settings (s .args .text .now) (e .if1 .left) (denied (said i) (t .if2 .taken))) (s .args .out .now) (r .refuse2 .ensures)
 
 abbrev start : tie.Else2 → tie.Start
 start c = c .before .before .before .before .before .before
@@ -69,7 +69,7 @@ returns-3 c =
     let e = v .before .before .before in
     let f = e .before .before .before in
     let s = f .before .before .before in
-    out-is (not-lines (s .args .text .now) (f .if1 .left) (set e) (denied (told v .sound) (t .if3 .taken))) (s .args .out .now) (r .refuse3 .ensures)
+    out-whole (not-lines (s .args .text .now) (f .if1 .left) (set e) (denied (told v .sound) (t .if3 .taken))) (s .args .out .now) (r .refuse3 .ensures)
 
 returns-4 : tie.Need-returns-4
 returns-4 c =
@@ -80,7 +80,7 @@ returns-4 c =
     let e = v .before .before .before in
     let f = e .before .before .before in
     let s = f .before .before .before in
-    out-is (too-many (s .args .text .now) (f .if1 .left) (set e) (granted (told v .sound) (n .if3 .left)) (rw (← told v .count) (t .if4 .taken))) (s .args .out .now) (r .refuse4 .ensures)
+    out-whole (too-many (s .args .text .now) (f .if1 .left) (set e) (granted (told v .sound) (n .if3 .left)) (rw (← told v .count) (t .if4 .taken))) (s .args .out .now) (r .refuse4 .ensures)
 
 values-within : (c : tie.Else4) → c .before .before .before .before .read-values .result .count ≤ length (c .before .before .before .before .read-values .last .1 .0)
 values-within c = omega (arith, c .if4 .left, c .before .before .before .before .read-values .kept)
@@ -105,7 +105,7 @@ returns-5 c =
     let p = e .before .before .settings .ensures in
     let same-list : output (measureRefusal (e .before .before .settings .result .lanes) (e .before .before .settings .result .mode) (take (v .read-values .result .count) (v .read-values .last .1 .0))) (fileFor (e .before .before .settings .result .lanes) (e .before .before .settings .result .mode) (take (v .read-values .result .count) (v .read-values .last .1 .0)))
     ≡ output (measureRefusal (settingsIn text .lanes) (settingsIn text .mode) (valuesIn text)) (fileFor (settingsIn text .lanes) (settingsIn text .mode) (valuesIn text)) = rw (p, vs) in
-    out-is (same-list ∙ list-out text (f .if1 .left) (set e) (granted (told v .sound) (n .if3 .left))) (s .args .out .now) (h .hand-out-file .ensures)
+    out-whole (same-list ∙ list-out text (f .if1 .left) (set e) (granted (told v .sound) (n .if3 .left))) (s .args .out .now) (h .hand-out-file .ensures)
 
 pub text-to-list-spec : {M : Type 1} → statement M
 text-to-list-spec =

@@ -7,10 +7,10 @@ use Rattle.lists_check.proofs.inputs.by_rule.Statement.{statement}
 use Rattle.lists_check.proofs.inputs.by_rule.Tie as tie
 
 abbrev Inv-loop : tie.InvT-loop
-Inv-loop lanes count rule step values₀ x₀ before₀ k₀ k-end values x before k = (k ≤ k-end) × (k-end ≤ 4104) × (4104 ≡ length values)
+Inv-loop lanes count rule values₀ x₀ before₀ k₀ k-end values x before k = (k ≤ k-end) × (k-end ≤ 4104) × (4104 ≡ length values)
 
 abbrev μ-loop : tie.MeasureT-loop
-μ-loop lanes count rule step values₀ x₀ before₀ k₀ k-end values x before k = k-end - k
+μ-loop lanes count rule values₀ x₀ before₀ k₀ k-end values x before k = k-end - k
 
 loop-again : tie.Need-loop-again Inv-loop μ-loop
 loop-again c = search needs

@@ -2,17 +2,17 @@
 use mathlib.Core.Path.{_≡_, refl, sym, _∙_, ap}
 use Prim.Native.Nat.{ℕ, _+_, _*_, _-_, _%_}
 use lib.ListN.{length, drop}
-use Rattle.tables.specs.Tables.{checksum, sumFrom}
+use Rattle.tables.specs.Tables.{sumFrom}
 use Rattle.tables.proofs.Going.{sum-more, sum-end}
 use borrow.Author.Needs.{needs}
-use Rattle.tables.proofs.bytes_sum.Statement.{statement}
-use Rattle.tables.proofs.bytes_sum.Tie as tie
+use Rattle.tables.proofs.bytes_sum_from.Statement.{statement}
+use Rattle.tables.proofs.bytes_sum_from.Tie as tie
 
 abbrev Inv-loop : tie.InvT-loop
-Inv-loop bytes sum₀ i₀ sum i = checksum bytes ≡ sumFrom sum (drop i bytes)
+Inv-loop start bytes sum₀ i₀ sum i = sumFrom start bytes ≡ sumFrom sum (drop i bytes)
 
 abbrev μ-loop : tie.MeasureT-loop
-μ-loop bytes sum₀ i₀ sum i = length bytes - i
+μ-loop start bytes sum₀ i₀ sum i = length bytes - i
 
 loop-holds : tie.Need-loop-holds Inv-loop μ-loop
 loop-holds c = refl
@@ -31,8 +31,8 @@ returns c =
     let l = c .before in
     sym (l .loop .inv ∙ sum-end (l .loop .sum) (l .before .before .args .bytes .now) (l .loop .i) (c .loop-test .left))
 
-pub bytes-sum-spec : {M : Type 1} → statement M
-bytes-sum-spec =
+pub bytes-sum-from-spec : {M : Type 1} → statement M
+bytes-sum-from-spec =
     tie.close
     (tie.spec
     Inv-loop

@@ -1,6 +1,6 @@
 -- For each public function of the crate: it asks nothing of its caller, and two answers that its contract allows for one input are equal.
 use mathlib.Core.Path.{sym, _∙_}
-use Rattle.answers.proofs.Contracts.{AsksNothing, AnswerDetermined}
+use Rattle.answers.specs.Contracts.{AsksNothing, AnswerDetermined}
 use Rattle.answers.proofs.Answer.refused.Reads as refused
 use Rattle.answers.proofs.Answer.refused.Kinds as refused-kinds
 use Rattle.answers.proofs.Answer.accepted.Reads as accepted

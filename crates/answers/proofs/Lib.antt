@@ -3,5 +3,4 @@ pub mod Refusals
 pub mod Answers
 pub mod Parts
 pub mod Fronts
-pub mod Contracts
 pub mod Determined

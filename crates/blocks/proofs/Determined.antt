@@ -1,7 +1,7 @@
 -- For each public function of the crate: it asks nothing of its caller; two answers that its contract allows for one input are equal, and so
 -- is what it leaves in the memory that it was lent to write.
 use mathlib.Core.Path.{sym, _∙_}
-use Rattle.answers.proofs.Contracts.{AsksNothing, AnswerDetermined, Determined}
+use Rattle.answers.specs.Contracts.{AsksNothing, AnswerDetermined, Determined}
 use Rattle.blocks.proofs.compressed_block_size.Reads as compressed-block-size
 use Rattle.blocks.proofs.compressed_block_size.Kinds as compressed-block-size-kinds
 use Rattle.blocks.proofs.compress.Reads as compress

@@ -12,7 +12,7 @@ use Rattle.layout.specs.Layout.{at, payloadSize, entryBits, payloadByte, packed
 use Rattle.answers.specs.Answers.{over}
 use Rattle.lanes.specs.Rows.{IsRow}
 use Rattle.blocks.specs.kernel.Places.{RowOf, WordsStored}
-use Rattle.blocks.specs.kernel.Registers.{Holds, bitsStored, byteStart, Packing}
+use Rattle.blocks.specs.kernel.Registers.{HoldsBits, bitsStored, byteStart, Packing}
 use Rattle.layout.proofs.Strings.{number-byte}
 use Rattle.layout.proofs.Products.{one-more, below-mul}
 use Rattle.layout.proofs.Lanes.{payload-at, entry-bits, row-number}
@@ -50,12 +50,12 @@ module _ {L n : ℕ} {e : ℕ → ℕ} {before : List ℕ} {r : ℕ} {x out : Li
   bits : (l : ℕ) → (k : ℕ) → entryBits L n e l k < 2
   bits = entry-bits L n e
 
-  held : Holds L (entryBits L n e) (bitsStored n r) (r * n % 32) x
+  held : HoldsBits L (entryBits L n e) (bitsStored n r) (r * n % 32) x
   held =
       let c : r * n - bitsStored n r ≡ r * n % 32 = omega arith in
       rw c at (p .held)
 
-  entering : Holds L (entryBits L n e) (r * n) n v
+  entering : HoldsBits L (entryBits L n e) (r * n) n v
   entering = record { bits = λ l h. is l h ∙ sym (row-number L n e l r (rw (is l h) at (fits l h))) }
 
   -- the word is not full yet
@@ -73,7 +73,7 @@ module _ {L n : ℕ} {e : ℕ → ℕ} {before : List ℕ} {r : ℕ} {x out : Li
   -- the word is full: it is stored, and what is over goes into the next
   module _ (pos : 0 < L) (h : 32 - r * n % 32 ≤ n) (narrow : n ≤ 32) {z after : List ℕ} (over : IsRow z (λ l. at v l / 2 ^ (32 - r * n % 32)))
       (s : WordsStored (r * n / 32 * L) L y out after) where
-    word : Holds L (entryBits L n e) (32 * (r * n / 32)) 32 y
+    word : HoldsBits L (entryBits L n e) (32 * (r * n / 32)) 32 y
     word = holds-word lanes bits held entering (omega arith) shifted joined (omega arith) (omega arith)
 
     full : bitsStored n (r + 1) ≡ 32 * (r * n / 32 + 1)

@@ -11,20 +11,20 @@ use Rattle.layout.specs.Layout.{at, blockSize, table, byteBits, payloadEntry, w
 use Rattle.answers.specs.Answers.{over}
 use Rattle.lanes.specs.Rows.{IsRow}
 use Rattle.blocks.specs.kernel.Places.{RowOf, RowStored}
-use Rattle.blocks.specs.kernel.Registers.{Holds, bitsLeft}
+use Rattle.blocks.specs.kernel.Registers.{HoldsBits, bitsLeft}
 use Rattle.layout.proofs.Products.{one-more, below-mul}
 use Rattle.layout.proofs.Lanes.{entry-at, byte-bits, word-number}
 use Rattle.layout.proofs.Tables.{front-table}
 use Rattle.blocks.proofs.Registers.{holds-none, holds-shr, holds-mask, holds-word}
 
 -- before the first row nothing is left
-pub held-none : (L n : ℕ) (bs : List ℕ) {x : List ℕ} → L ≤ 8 → IsRow x (λ l. 0) → Holds L (byteBits L bs) (0 * n) (bitsLeft n 0) x
+pub held-none : (L n : ℕ) (bs : List ℕ) {x : List ℕ} → L ≤ 8 → IsRow x (λ l. 0) → HoldsBits L (byteBits L bs) (0 * n) (bitsLeft n 0) x
 held-none L n bs h zeros = holds-none h (omega (arith, zero-mul n)) zeros
 
 -- x is what is left before row r
-module _ (L n : ℕ) (bs : List ℕ) (r : ℕ) {x : List ℕ} (held : Holds L (byteBits L bs) (r * n) (bitsLeft n r) x) (lanes : L ≤ 8) where
+module _ (L n : ℕ) (bs : List ℕ) (r : ℕ) {x : List ℕ} (held : HoldsBits L (byteBits L bs) (r * n) (bitsLeft n r) x) (lanes : L ≤ 8) where
   -- n bits from there on are row r
-  row-of : {v : List ℕ} → Holds L (byteBits L bs) (r * n) n v → RowOf L (payloadEntry L n bs) r v
+  row-of : {v : List ℕ} → HoldsBits L (byteBits L bs) (r * n) n v → RowOf L (payloadEntry L n bs) r v
   row-of q l h = q .bits l h ∙ sym (entry-at L n bs r l h)
 
   -- it reaches: the row is its low bits
@@ -32,13 +32,13 @@ module _ (L n : ℕ) (bs : List ℕ) (r : ℕ) {x : List ℕ} (held : Holds L (b
     pub reach-row : {m : ℕ} {ones v : List ℕ} → m ≡ 2 ^ n - 1 → IsRow ones (λ l. m) → IsRow v (λ l. bitAnd (at x l) (at ones l)) → RowOf L (payloadEntry L n bs) r v
     reach-row mask ones masked = row-of (holds-mask lanes (byte-bits L bs) n (bitsLeft n r - n) held mask ones masked (omega arith))
 
-    pub reach-held : {z : List ℕ} → IsRow z (λ l. at x l / 2 ^ n) → Holds L (byteBits L bs) ((r + 1) * n) (bitsLeft n (r + 1)) z
+    pub reach-held : {z : List ℕ} → IsRow z (λ l. at x l / 2 ^ n) → HoldsBits L (byteBits L bs) ((r + 1) * n) (bitsLeft n (r + 1)) z
     reach-held shifted = holds-shr lanes (byte-bits L bs) n held shifted (omega (arith, one-more r n)) (sym (one-more r n))
 
   -- it does not: the next word of each lane, y, comes in above it
   module _ (h : bitsLeft n r < n) (narrow : n ≤ 32) (bytes : (i : ℕ) → at bs i < 256) (y : List ℕ)
       (loaded : (l : ℕ) → l < L → at y l ≡ wordAt bs (4 * ((r * n + 31) / 32 * L + l))) where
-    next : Holds L (byteBits L bs) (32 * ((r * n + 31) / 32)) 32 y
+    next : HoldsBits L (byteBits L bs) (32 * ((r * n + 31) / 32)) 32 y
     next = record { bits = λ l k. loaded l k ∙ sym (word-number L bs l ((r * n + 31) / 32) bytes) }
 
     pub more-row : {s j : List ℕ} {m : ℕ} {ones v : List ℕ} → IsRow s (λ l. at y l * 2 ^ bitsLeft n r % 2 ^ 32) → IsRow j (λ l. bitOr (at x l) (at s l))
@@ -46,7 +46,7 @@ module _ (L n : ℕ) (bs : List ℕ) (r : ℕ) {x : List ℕ} (held : Holds L (b
     more-row shifted joined mask ones masked =
         row-of (holds-mask lanes (byte-bits L bs) n (32 - n) (holds-word lanes (byte-bits L bs) held next (omega arith) shifted joined (omega arith) (omega arith)) mask ones masked (omega arith))
 
-    pub more-held : {z : List ℕ} → IsRow z (λ l. at y l / 2 ^ (n - bitsLeft n r)) → Holds L (byteBits L bs) ((r + 1) * n) (bitsLeft n (r + 1)) z
+    pub more-held : {z : List ℕ} → IsRow z (λ l. at y l / 2 ^ (n - bitsLeft n r)) → HoldsBits L (byteBits L bs) ((r + 1) * n) (bitsLeft n (r + 1)) z
     more-held shifted = holds-shr lanes (byte-bits L bs) (n - bitsLeft n r) next shifted (omega (arith, one-more r n)) (omega (arith, one-more r n))
 
 -- a word that is read is one of n

@@ -16,7 +16,7 @@ ghost use Rattle.layout.specs.Layout.{blockSize, payloadSize, byteBits, payload
 ghost use Rattle.answers.specs.Answers.{over};
 ghost use Rattle.blocks.specs.Calls.{unpacked};
 ghost use Rattle.blocks.specs.kernel.Places.{RowOf};
-ghost use Rattle.blocks.specs.kernel.Registers.{Holds, bitsLeft};
+ghost use Rattle.blocks.specs.kernel.Registers.{HoldsBits, bitsLeft};
 
 // width bits, all 1.
 fn mask(width: u32) -> u32
@@ -35,9 +35,9 @@ pub(crate) struct Unpacked {
 // Row `row` of a payload, from the bits that are left; the next words are read only where these do not reach.
 fn unpack_row(lanes: usize, bytes: &[u8], width: u32, row: u32, held: [u32; 8]) -> Unpacked
     requires { ⌜ (lanes ≤ 8) × (width ≤ 32) × (row < 32) × (payloadSize lanes width ≤ length (now bytes)) ⌝ }
-    requires { ⌜ Holds lanes (byteBits lanes (now bytes)) (row * width) (bitsLeft width row) held ⌝ }
+    requires { ⌜ HoldsBits lanes (byteBits lanes (now bytes)) (row * width) (bitsLeft width row) held ⌝ }
     ensures { λ r. ⌜ RowOf lanes (payloadEntry lanes width (now (bytes .entry))) row (r .entries) ⌝ }
-    ensures { λ r. ⌜ Holds lanes (byteBits lanes (now (bytes .entry))) ((row + 1) * width) (bitsLeft width (row + 1)) (r .rest) ⌝ }
+    ensures { λ r. ⌜ HoldsBits lanes (byteBits lanes (now (bytes .entry))) ((row + 1) * width) (bitsLeft width (row + 1)) (r .rest) ⌝ }
 {
     let ones = set1(mask(width));
     let start = row * width;

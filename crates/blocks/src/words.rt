@@ -1,17 +1,11 @@
 // Rows of words: "Word w of lane l starts at byte 4(wL + l), lowest byte first." The caller lends the part that begins at word w of
 // lane 0 (the Rust's pointers to `DataType`).
+use lanes::wide;
 ghost use mathlib.Core.Path.{_≡_};
 ghost use Prim.Native.Nat.{ℕ, _+_, _*_, _≤_, _<_};
 ghost use lib.ListN.{length};
 ghost use Rattle.layout.specs.Layout.{at, wordAt};
 ghost use Rattle.blocks.specs.kernel.Places.{withWord, WordsStored};
-
-fn wide(x: u8) -> u32
-    ensures { λ r. ⌜ r ≡ x ⌝ }
-    ensures { λ r. ⌜ r < 256 ⌝ }
-{
-    x as u32
-}
 
 // The word that starts at byte `start`.
 fn load_word(bytes: &[u8], start: usize) -> u32

@@ -5,9 +5,9 @@ use blocks::decompress;
 use blocks::num_bits;
 use tables::lesser;
 use tables::line::Numbers;
+use tables::words::amount;
 use tables::words::mode;
 use tables::words::narrow;
-use tables::words::number;
 ghost use mathlib.Core.Path.{_≡_};
 ghost use lib.ListN.{length};
 
@@ -17,11 +17,11 @@ pub(crate) const BYTES: usize = 1040;
 pub(crate) const VALUES: usize = 264;
 
 fn lanes(case: &[u8]) -> usize {
-    number(b'l', case) as usize
+    amount(b'l', case) as usize
 }
 
 pub(crate) fn width(case: &[u8]) -> u32 {
-    narrow(number(b'w', case))
+    narrow(amount(b'w', case))
 }
 
 // The length of a payload.

@@ -11,6 +11,7 @@ use crate::calls::unpack;
 use crate::calls::width;
 use crate::inputs::noise;
 use crate::inputs::one_entry;
+use lanes::wide;
 use libc::STDOUT_FILENO;
 use tables::buffers::first_bytes;
 use tables::buffers::first_values;
@@ -19,13 +20,12 @@ use tables::buffers::same_values;
 use tables::line;
 use tables::line::Numbers;
 use tables::line::no_numbers;
-use tables::wide;
+use tables::words::amount;
 use tables::words::given_values;
-use tables::words::number;
 
 // How many values a case has, or packs.
 fn count(case: &[u8]) -> usize {
-    number(b'v', case) as usize
+    amount(b'v', case) as usize
 }
 
 // Pack into so much room, and what the whole output holds then.
@@ -59,7 +59,7 @@ pub(crate) fn all_calls(case: &[u8]) {
     four_calls(
         case,
         first_values(&values, count(case)),
-        first_bytes(&bytes, number(b'b', case) as usize),
+        first_bytes(&bytes, amount(b'b', case) as usize),
     );
 }
 
@@ -82,8 +82,8 @@ fn bytes_not_zero(bytes: &[u8]) {
 // What the whole output holds, and how the values go on.
 fn show_held(case: &[u8], output: &[u8]) {
     let held = bytes_held(no_numbers(), output);
-    let started = held.with(number(b'g', case));
-    let all = started.with(number(b's', case));
+    let started = held.with(amount(b'g', case));
+    let all = started.with(amount(b's', case));
     all.write(b" bytes_kept=# bytes_sum=# start=# step=#");
 }
 

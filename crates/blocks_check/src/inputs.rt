@@ -3,9 +3,9 @@ use modes::Mode;
 use modes::initial_value;
 use std::num::wrapping_add_u32;
 use tables::noise_after;
+use tables::words::amount;
 use tables::words::mode;
 use tables::words::narrow;
-use tables::words::number;
 ghost use mathlib.Core.Path.{_≡_};
 ghost use lib.ListN.{length};
 
@@ -55,7 +55,7 @@ pub(crate) fn one_entry(case: &[u8]) -> [u32; 264]
 {
     values_of(
         mode(case),
-        number(b'p', case) as usize,
-        narrow(number(b'e', case)),
+        amount(b'p', case) as usize,
+        narrow(amount(b'e', case)),
     )
 }

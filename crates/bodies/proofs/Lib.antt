@@ -7,4 +7,3 @@ pub mod Narrow
 pub mod Numbers
 pub mod Stops
 pub mod Kept
-pub mod Claims

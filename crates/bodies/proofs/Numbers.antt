@@ -5,33 +5,28 @@ use Prim.Native.Nat.{ℕ, zero, suc, _+_, _-_}
 use lib.Dec.{ltb, eqb}
 use lib.ListN.{length}
 use Rattle.layout.specs.Layout.{blockSize}
-use Rattle.layout.specs.Width.{fits, leastWidth}
+use Rattle.layout.specs.Width.{leastWidth}
 use Rattle.modes.specs.declared.Mode.{Mode}
 use Rattle.answers.specs.declared.Refusal.{Refusal}
 use Rattle.answers.specs.declared.Refusal.the-variants.{Accepted, BadWidth, CutShort, OutOfOrder, NotLeast, BadFill, LeftOver}
 use Rattle.answers.proofs.Refusals.{refused, either}
 use Rattle.order.specs.Order.{ordered}
 use Rattle.bodies.specs.Body.{blockCount}
-use Rattle.bodies.specs.Reading.{widthAt, sizeAt, entryAt, valuesAt, frameRefusal, entriesRefusal, shapeRefusal, valuesRefusal, blockRefusal, refusalFrom, bodyRefusal}
+use Rattle.bodies.specs.Reading.{widthAt, sizeAt, entryAt, valuesAt, allZero, refuseValues, blockRefusal, refusalFrom, bodyRefusal}
 
 module _ (P : Refusal → Type 0) (none : P Accepted) (wide : P BadWidth) (cut : P CutShort) (order : P OutOfOrder) (least : P NotLeast) (fill : P BadFill) (left : P LeftOver) where
-  frame : (L : ℕ) (bs : List ℕ) → P (frameRefusal L bs)
-  unfolding frameRefusal
-  frame L bs = refused P (ltb (length bs) 1) CutShort _ cut (refused P (ltb 32 (widthAt bs)) BadWidth _ wide (refused P (ltb (length bs) (sizeAt L bs)) CutShort Accepted cut none))
-
-  shape : (L k : ℕ) (bs : List ℕ) → P (shapeRefusal L k bs)
-  unfolding shapeRefusal entriesRefusal
-  shape L k bs =
-      either P (frameRefusal L bs) _ (frame L bs)
-      (refused P (not (fits (λ i. entryAt L bs (k + i)) (blockSize L - k) 0)) BadFill _ fill
-      (refused P (not (eqb (widthAt bs) (leastWidth (entryAt L bs) (blockSize L)))) NotLeast Accepted least none))
-
-  pub values-only : (m : Mode) (vs : List ℕ) → P (valuesRefusal m vs)
+  pub values-only : (m : Mode) (vs : List ℕ) → P (refuseValues m vs Accepted)
   values-only m vs = refused P (not (ordered m vs)) OutOfOrder Accepted order none
 
   block-only : (L : ℕ) (m : Mode) (k : ℕ) (bs : List ℕ) → P (blockRefusal L m k bs)
   unfolding blockRefusal
-  block-only L m k bs = either P (shapeRefusal L k bs) _ (shape L k bs) (values-only m (valuesAt L m k bs))
+  block-only L m k bs =
+      refused P (ltb (length bs) 1) CutShort _ cut
+      (refused P (ltb 32 (widthAt bs)) BadWidth _ wide
+      (refused P (ltb (length bs) (sizeAt L bs)) CutShort _ cut
+      (refused P (not (allZero (λ i. entryAt L bs (k + i)) (blockSize L - k))) BadFill _ fill
+      (refused P (not (eqb (widthAt bs) (leastWidth (entryAt L bs) (blockSize L)))) NotLeast _ least
+      (values-only m (valuesAt L m k bs))))))
 
   from : (L : ℕ) (m : Mode) (count : ℕ) (bs : List ℕ) (b : ℕ) → P (refusalFrom L m count bs b)
   unfolding refusalFrom

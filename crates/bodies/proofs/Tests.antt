@@ -1,18 +1,21 @@
 -- What the tests of a block say where none refuses.
-use mathlib.Core.Path.{_≡_, refl}
+use mathlib.Core.Path.{_≡_, refl, sym, _∙_}
 use mathlib.Core.Bool.{true, false}
 use mathlib.Core.List.{List}
-use Prim.Native.Nat.{ℕ, suc, _+_, _-_, _≤_, min}
-use borrow.Author.Tests.{ltb-false, le-ltb, eqb-true, eq-eqb, not-false}
+use Prim.Native.Nat.{ℕ, zero, suc, _+_, _-_, _≤_, _<_, min}
+use native.Mathlib.Omega.{arith}
+use native.Mathlib.Decide.{ℕ-discrete}
+use borrow.Author.Tests.{ltb-false, lt-ltb, le-ltb, eqb-true, eq-eqb, ne-eqb, not-false}
+use lib.Dec.{ltb, eqb}
 use lib.ListN.{length}
 use Rattle.layout.specs.Layout.{blockSize}
 use Rattle.layout.specs.Width.{fits, leastWidth}
 use Rattle.modes.specs.declared.Mode.{Mode}
 use Rattle.answers.specs.declared.Refusal.the-variants.{Accepted, BadWidth, CutShort, OutOfOrder, NotLeast, BadFill}
 use Rattle.answers.specs.Refusals.{accepted}
-use Rattle.answers.proofs.Refusals.{passed, both, first-stops}
+use Rattle.answers.proofs.Refusals.{passed, first-stops}
 use Rattle.order.specs.Order.{ordered}
-use Rattle.bodies.specs.Reading.{widthAt, sizeAt, entryAt, valuesAt, frameRefusal, entriesRefusal, shapeRefusal, blockRefusal, refusalFrom}
+use Rattle.bodies.specs.Reading.{widthAt, sizeAt, entryAt, valuesAt, allZero, frameRefusal, blockRefusal, refusalFrom}
 
 -- a block stands there
 pub record Framed (L : ℕ) (bs : List ℕ) : Type 0 where
@@ -32,32 +35,32 @@ pub frames : (L : ℕ) (bs : List ℕ) → Framed L bs → accepted (frameRefusa
 unfolding frameRefusal
 frames L bs f = rw (le-ltb (length bs) 1 (f .some), le-ltb 32 (widthAt bs) (f .narrow), le-ltb (length bs) (sizeAt L bs) (f .whole))
 
--- "10, 9": filling that is not 0 is told before the width
-pub fill-first : (L k n : ℕ) (e : ℕ → ℕ) → fits (λ i. e (k + i)) (blockSize L - k) 0 ≡ false → entriesRefusal L k n e ≡ BadFill
-unfolding entriesRefusal
-fill-first L k n e h = rw h
+-- to be 0 is to fit width 0
+zero-tells : (x : ℕ) → eqb x 0 ≡ ltb x 1
+zero-tells x = go (ℕ-discrete x 0)
+  where
+    go : Dec (x ≡ 0) → eqb x 0 ≡ ltb x 1
+    go (yes e) = eq-eqb x 0 e ∙ sym (lt-ltb x 1 (omega arith))
+    go (no n) = ne-eqb x 0 n ∙ sym (le-ltb x 1 (omega (arith, pos x n)))
+      where
+        pos : (y : ℕ) → (y ≡ 0 → ⊥) → 0 < y
+        pos zero h = absurd (h refl)
+        pos (suc y) h = omega arith
 
--- "block by block": what a block is refused for is told before the blocks behind it are looked at
-pub block-first : (L : ℕ) (m : Mode) (count : ℕ) (bs : List ℕ) (b : ℕ) → accepted (blockRefusal L m (min (blockSize L) count) bs) ≡ false
-    → refusalFrom L m count bs (suc b) ≡ blockRefusal L m (min (blockSize L) count) bs
-unfolding refusalFrom
-block-first L m count bs b h = first-stops (blockRefusal L m (min (blockSize L) count) bs) _ h
+pub zeros-fit : (e : ℕ → ℕ) (m : ℕ) → allZero e m ≡ fits e m 0
+unfolding allZero fits
+zeros-fit e zero = refl
+zeros-fit e (suc m) = rw (zeros-fit e m, zero-tells (e m))
+
+-- "10, 9": filling that is not 0 is told before the width
+pub fill-first : (L : ℕ) (m : Mode) (k : ℕ) (bs : List ℕ) → Framed L bs → allZero (λ i. entryAt L bs (k + i)) (blockSize L - k) ≡ false → blockRefusal L m k bs ≡ BadFill
+unfolding blockRefusal
+fill-first L m k bs f h = rw (le-ltb (length bs) 1 (f .some), le-ltb 32 (widthAt bs) (f .narrow), le-ltb (length bs) (sizeAt L bs) (f .whole), h)
 
 -- its entries are as they are written
 pub record Kept (L k n : ℕ) (e : ℕ → ℕ) : Type 0 where
   pub filling : fits (λ i. e (k + i)) (blockSize L - k) 0 ≡ true
   pub least : n ≡ leastWidth e (blockSize L)
-
-pub kept : (L k n : ℕ) (e : ℕ → ℕ) → accepted (entriesRefusal L k n e) ≡ true → Kept L k n e
-unfolding entriesRefusal
-kept L k n e h =
-    let a = passed _ BadFill _ refl h in
-    let b = passed _ NotLeast Accepted refl (a .1) in
-    record { filling = not-false _ (a .0); least = eqb-true _ _ (not-false _ (b .0)) }
-
-pub keeps : (L k n : ℕ) (e : ℕ → ℕ) → Kept L k n e → accepted (entriesRefusal L k n e) ≡ true
-unfolding entriesRefusal
-keeps L k n e s = rw (s .filling, eq-eqb n (leastWidth e (blockSize L)) (s .least))
 
 -- and its values are in order
 pub record Passed (L : ℕ) (m : Mode) (k : ℕ) (bs : List ℕ) : Type 0 where
@@ -66,14 +69,36 @@ pub record Passed (L : ℕ) (m : Mode) (k : ℕ) (bs : List ℕ) : Type 0 where
   pub order : ordered m (valuesAt L m k bs) ≡ true
 
 pub block-passed : (L : ℕ) (m : Mode) (k : ℕ) (bs : List ℕ) → accepted (blockRefusal L m k bs) ≡ true → Passed L m k bs
-unfolding blockRefusal shapeRefusal
+unfolding blockRefusal
 block-passed L m k bs h =
-    let o = both (shapeRefusal L k bs) _ h in
-    let s = both (frameRefusal L bs) (entriesRefusal L k (widthAt bs) (entryAt L bs)) (o .0) in
-    let v = passed _ OutOfOrder Accepted refl (o .1) in
-    record { frame = framed L bs (s .0); entries = kept L k (widthAt bs) (entryAt L bs) (s .1); order = not-false _ (v .0) }
+    let a = passed _ CutShort _ refl h in
+    let b = passed _ BadWidth _ refl (a .1) in
+    let c = passed _ CutShort _ refl (b .1) in
+    let d = passed _ BadFill _ refl (c .1) in
+    let e = passed _ NotLeast _ refl (d .1) in
+    let v = passed _ OutOfOrder Accepted refl (e .1) in
+    record {
+      frame = record { some = ltb-false _ _ (a .0); narrow = ltb-false _ _ (b .0); whole = ltb-false _ _ (c .0) };
+      entries = record { filling = sym (zeros-fit (λ i. entryAt L bs (k + i)) (blockSize L - k)) ∙ not-false _ (d .0); least = eqb-true _ _ (not-false _ (e .0)) };
+      order = not-false _ (v .0);
+    }
 
 pub block-passes : (L : ℕ) (m : Mode) (k : ℕ) (bs : List ℕ) → Passed L m k bs → accepted (blockRefusal L m k bs) ≡ true
-unfolding blockRefusal shapeRefusal
+unfolding blockRefusal
 block-passes L m k bs p =
-    rw (frames L bs (p .frame), keeps L k (widthAt bs) (entryAt L bs) (p .entries), p .order)
+    let f = p .frame in
+    rw (
+      le-ltb (length bs) 1 (f .some),
+      le-ltb 32 (widthAt bs) (f .narrow),
+      le-ltb (length bs) (sizeAt L bs) (f .whole),
+      zeros-fit (λ i. entryAt L bs (k + i)) (blockSize L - k),
+      p .entries .filling,
+      eq-eqb (widthAt bs) (leastWidth (entryAt L bs) (blockSize L)) (p .entries .least),
+      p .order,
+    )
+
+-- "block by block": what a block is refused for is told before the blocks behind it are looked at
+pub block-first : (L : ℕ) (m : Mode) (count : ℕ) (bs : List ℕ) (b : ℕ) → accepted (blockRefusal L m (min (blockSize L) count) bs) ≡ false
+    → refusalFrom L m count bs (suc b) ≡ blockRefusal L m (min (blockSize L) count) bs
+unfolding refusalFrom
+block-first L m count bs b h = first-stops (blockRefusal L m (min (blockSize L) count) bs) _ h

@@ -21,7 +21,7 @@ use Rattle.answers.specs.declared.Refusal.the-variants.{Accepted, LeftOver}
 use Rattle.answers.specs.Refusals.{accepted}
 use Rattle.answers.proofs.Refusals.{passed, both}
 use Rattle.order.specs.Order.{afterAll, ordered, valuesOf}
-use Rattle.order.proofs.Steps.{Starts, values-small, all-starts, values-append, ordered-append}
+use Rattle.order.proofs.Steps.{values-append, ordered-append}
 use Rattle.bodies.specs.Body.{block, blockCount, blocksOf}
 use Rattle.bodies.specs.Reading.{sizeAt, entryAt, entriesAt, valuesAt, blockRefusal, refusalFrom, entriesFrom}
 use Rattle.bodies.proofs.Tests.{Passed, block-passed, block-passes}
@@ -55,13 +55,13 @@ pub record Written (L : ℕ) (m : Mode) (count : ℕ) (bs : List ℕ) (b : ℕ) 
   pub small : Below (2 ^ 32) es
   pub order : ordered m (valuesOf m es) ≡ true
 
-pub sound : (b L : ℕ) (m : Mode) (count : ℕ) (bs : List ℕ) → count ≤ b * blockSize L → Starts m → Below 256 bs
+pub sound : (b L : ℕ) (m : Mode) (count : ℕ) (bs : List ℕ) → count ≤ b * blockSize L → Below 256 bs
     → accepted (refusalFrom L m count bs b) ≡ true → Written L m count bs b (entriesFrom L count bs b)
 unfolding refusalFrom entriesFrom blocksOf valuesOf ordered
-sound zero L m count bs few start bytes h =
+sound zero L m count bs few bytes h =
     let a = passed (ltb 0 (length bs)) LeftOver Accepted refl h in
     record { body = empty bs (ltb-false 0 (length bs) (a .0)); size = omega (arith, zero-mul (blockSize L)); small = below-none (omega arith); order = refl }
-sound (suc b) L m count bs few start bytes h =
+sound (suc b) L m count bs few bytes h =
     let k : ℕ = min (blockSize L) count in
     let o = both (blockRefusal L m k bs) _ h in
     let p : Passed L m k bs = block-passed L m k bs (o .0) in
@@ -70,7 +70,7 @@ sound (suc b) L m count bs few start bytes h =
     let w : Below (2 ^ 32) es = entries-small L m k bs p in
     let rest : List ℕ = entriesFrom L (count - blockSize L) (drop (sizeAt L bs) bs) b in
     let ih : Written L (afterAll m (valuesAt L m k bs)) (count - blockSize L) (drop (sizeAt L bs) bs) b rest =
-    sound b L (afterAll m (valuesAt L m k bs)) (count - blockSize L) (drop (sizeAt L bs) bs) (omega (arith, suc-times b (blockSize L))) (all-starts m (valuesAt L m k bs) start (values-small m es w))
+    sound b L (afterAll m (valuesAt L m k bs)) (count - blockSize L) (drop (sizeAt L bs) bs) (omega (arith, suc-times b (blockSize L)))
     (below-drop (sizeAt L bs) bs bytes) (o .1) in
     let f = front (blockSize L) es rest count len (ih .size) in
     record {

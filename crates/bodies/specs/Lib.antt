@@ -2,4 +2,3 @@ pub mod List
 pub mod Body
 pub mod Reading
 pub mod Stops
-pub mod Claims

@@ -1,12 +1,12 @@
 -- Reading a body, block by block: which refusal is given, and which list is read. bs are the bytes from a block on, k is how many of
 -- its values are the list's, and m is the mode past the values before it.
-use mathlib.Core.Bool.{not}
+use mathlib.Core.Bool.{Bool, true, not, _&&_}
 use mathlib.Core.List.{List, [], _++_}
 use Prim.Native.Nat.{ℕ, zero, suc, _+_, _-_, min}
 use lib.Dec.{ltb, eqb}
 use lib.ListN.{length, drop}
 use Rattle.layout.specs.Layout.{at, blockSize, payloadSize, table, payloadEntry}
-use Rattle.layout.specs.Width.{fits, leastWidth}
+use Rattle.layout.specs.Width.{leastWidth}
 use Rattle.modes.specs.declared.Mode.{Mode}
 use Rattle.answers.specs.declared.Refusal.{Refusal}
 use Rattle.answers.specs.declared.Refusal.the-variants.{Accepted, BadWidth, CutShort, OutOfOrder, NotLeast, BadFill, LeftOver}
@@ -30,32 +30,34 @@ entriesAt L k bs = table (entryAt L bs) k
 abbrev pub valuesAt : ℕ → Mode → ℕ → List ℕ → List ℕ
 valuesAt L m k bs = valuesOf m (entriesAt L k bs)
 
--- "5 (no width byte), 2, 5, ..": whether a block stands there
+-- whether e 0, .., e (m - 1) are all 0
+unfoldable pub allZero : (ℕ → ℕ) → ℕ → Bool
+allZero e zero = true
+allZero e (suc m) = allZero e m && eqb (e m) 0
+
+-- 8: what the values vs that come next are refused for, in reading and in writing alike, and else `next`
+abbrev pub refuseValues : Mode → List ℕ → Refusal → Refusal
+refuseValues m vs next = refuse (not (ordered m vs)) OutOfOrder next
+
+-- a block: "5 (no width byte), 2, 5, 10, 9, 8". The entries behind the first k are filling. "The values that filling stands for are not
+-- part of the list and are not tested for order."
+unfoldable pub blockRefusal : ℕ → Mode → ℕ → List ℕ → Refusal
+blockRefusal L m k bs =
+    refuse (ltb (length bs) 1) CutShort
+    (refuse (ltb 32 (widthAt bs)) BadWidth
+    (refuse (ltb (length bs) (sizeAt L bs)) CutShort
+    (refuse (not (allZero (λ i. entryAt L bs (k + i)) (blockSize L - k))) BadFill
+    (refuse (not (eqb (widthAt bs) (leastWidth (entryAt L bs) (blockSize L)))) NotLeast
+    (refuseValues m (valuesAt L m k bs)
+    Accepted)))))
+
+-- the first three of them by themselves: whether a block stands there
 unfoldable pub frameRefusal : ℕ → List ℕ → Refusal
 frameRefusal L bs =
     refuse (ltb (length bs) 1) CutShort
     (refuse (ltb 32 (widthAt bs)) BadWidth
     (refuse (ltb (length bs) (sizeAt L bs)) CutShort
     Accepted))
-
--- ".. 10, 9, ..": whether the entries e behind the first k are 0, and n is their least width. (To fit width 0 is to be 0.)
-unfoldable pub entriesRefusal : ℕ → ℕ → ℕ → (ℕ → ℕ) → Refusal
-entriesRefusal L k n e =
-    refuse (not (fits (λ i. e (k + i)) (blockSize L - k) 0)) BadFill
-    (refuse (not (eqb n (leastWidth e (blockSize L)))) NotLeast
-    Accepted)
-
--- what the bytes of a block are refused for, whatever values they stand for
-unfoldable pub shapeRefusal : ℕ → ℕ → List ℕ → Refusal
-shapeRefusal L k bs = orElse (frameRefusal L bs) (entriesRefusal L k (widthAt bs) (entryAt L bs))
-
--- ".. 8": what values that come next are refused for, in reading and in writing
-abbrev pub valuesRefusal : Mode → List ℕ → Refusal
-valuesRefusal m vs = refuse (not (ordered m vs)) OutOfOrder Accepted
-
--- a block. "The values that filling stands for are not part of the list and are not tested for order."
-unfoldable pub blockRefusal : ℕ → Mode → ℕ → List ℕ → Refusal
-blockRefusal L m k bs = orElse (shapeRefusal L k bs) (valuesRefusal m (valuesAt L m k bs))
 
 -- "at the end 11": what stands behind the last block
 abbrev pub endRefusal : List ℕ → Refusal

@@ -1,7 +1,7 @@
 -- For each public function of the crate: it asks nothing of its caller; two answers that its contract allows for one input are equal, and so
 -- is what it leaves in the memory that it was lent to write.
 use mathlib.Core.Path.{sym, _∙_}
-use Rattle.answers.proofs.Contracts.{AsksNothing, AnswerDetermined, SeenDetermined, Determined}
+use Rattle.answers.specs.Contracts.{AsksNothing, AnswerDetermined, SeenDetermined, Determined}
 use Rattle.files.proofs.find.Reads as find
 use Rattle.files.proofs.find.Kinds as find-kinds
 use Rattle.files.proofs.find_file.Reads as find-file

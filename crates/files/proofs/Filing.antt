@@ -19,7 +19,7 @@ use Rattle.modes.specs.declared.Mode.{Mode}
 use Rattle.bodies.specs.Body.{bodyOf}
 use Rattle.bodies.proofs.Sizes.{body-short}
 use Rattle.lists.specs.Calls.{measureRefusal, measureAnswer, writeRefusal, writeOutput}
-use Rattle.lists.proofs.Accepts.{Measurable, measure-exactly, write-exactly}
+use Rattle.lists.proofs.Accepts.{Measurable, measure-exactly, writing-parts, write-exactly}
 use Rattle.text.specs.Text.{decimal, fitted, line}
 use Rattle.text.proofs.Decimals.{fitted-all}
 use Rattle.files.specs.declared.heading.Header.{Header}
@@ -39,7 +39,7 @@ pub not-measured : (L : ℕ) (m : Mode) (vs before : List ℕ) {r q : Answer} �
     → (q ≡ writeFileAnswer L m vs (length before)) × (before ≡ writeFileOutput L m vs before)
 not-measured L m vs before {r} e h q =
     let k : r .refusal ≡ measureRefusal L m vs = ap (λ (a : Answer). a .refusal) e in
-    let j : r .refusal ≡ writeFileRefusal L m vs (length before) = k ∙ sym (first-stops (measureRefusal L m vs) _ (ap accepted (sym k) ∙ h)) in
+    let j : r .refusal ≡ writeFileRefusal L m vs (length before) = k ∙ sym (writing-parts L m vs (length (fileFor L m vs)) (length before) ∙ first-stops (measureRefusal L m vs) _ (ap accepted (sym k) ∙ h)) in
     (refused j h q (length (fileFor L m vs)), untouched j h (fileFor L m vs) before)
 
 -- what is not
@@ -74,7 +74,7 @@ module _ (L : ℕ) (m : Mode) (vs before : List ℕ) (r : Answer) (told : r ≡ 
 
     pub no-room : length before < n + r .length → {q : Answer} → q ≡ answer NoRoom 0 → (q ≡ writeFileAnswer L m vs (length before)) × (before ≡ writeFileOutput L m vs before)
     no-room h q =
-        let j : NoRoom ≡ writeFileRefusal L m vs (length before) = rw (good, lt-ltb (length before) (length (fileFor L m vs)) (rw total at h)) in
+        let j : NoRoom ≡ writeFileRefusal L m vs (length before) = rw (writing-parts L m vs (length (fileFor L m vs)) (length before), good, lt-ltb (length before) (length (fileFor L m vs)) (rw total at h)) in
         (refused j refl q (length (fileFor L m vs)), untouched j refl (fileFor L m vs) before)
 
     module _ (room : n + r .length ≤ length before) (text out₁ : List ℕ) (spelt : text ≡ over (headerText (record { lanes = L; mode = m; count = length vs; bytes = r .length })) (replicate longestHeader 0))
@@ -113,5 +113,5 @@ module _ (L : ℕ) (m : Mode) (vs before : List ℕ) (r : Answer) (told : r ≡ 
         file-done q =
             let e : headerText head ++ bodyOf L m vs ≡ fileFor L m vs = ap (λ (t : List ℕ). t ++ bodyOf L m vs) head-is ∙ file-splits (headerFor L m vs) (bodyOf L m vs) in
             let fit : length (fileFor L m vs) ≤ length before = omega (arith, total, room) in
-            let j : Accepted ≡ writeFileRefusal L m vs (length before) = rw (good, le-ltb (length before) (length (fileFor L m vs)) fit) in
+            let j : Accepted ≡ writeFileRefusal L m vs (length before) = rw (writing-parts L m vs (length (fileFor L m vs)) (length before), good, le-ltb (length before) (length (fileFor L m vs)) fit) in
             (answered j refl q total, overwritten j refl (fileFor L m vs) before (whole .here ∙ ap (λ (t : List ℕ). over t before) e))

@@ -29,9 +29,9 @@ use Rattle.files.specs.declared.finding.SizeLines.{SizeLines}
 use Rattle.files.specs.declared.SettingsFound.{SettingsFound}
 use Rattle.files.specs.declared.Found.{Found}
 use Rattle.files.specs.declared.heading.Header.{Header}
-use Rattle.files.specs.Header.{settings, fileOf, headerText, IsHeader}
+use Rattle.files.specs.Header.{settings, fileOf, headerText, Sound, IsHeader}
 use Rattle.files.specs.kernel.Finding.{some, modeText, noneLines, sortedName, strictName, strictLines, modeLinesIn, settingsIn, sizeText, sizeLinesIn, headerFound}
-use Rattle.files.proofs.Lines.{settings-rest}
+use Rattle.files.proofs.Lines.{first-text, settings-rest}
 
 -- one test after another: what holds either way
 pub when : {A : Type 0} (P : A → Type 0) (b : Bool) {x y : A} → (b ≡ true → P x) → (b ≡ false → P y) → P (cond b x y)
@@ -105,14 +105,12 @@ module _ (bs : List ℕ) where
   mode-found (Strict (Number v)) is small h =
       let e = begins-whole (modeText (Strict (Number v))) bs h in
       let own : startingInitial (Number v) ≡ Number v = cc in
-      rw (not-plain _ (Number v) e, not-sorted _ (Number v) e, line-found strictName bs v small (rw own at h), numbered-some strictName v, own)
+      rw (not-plain _ (Number v) e, not-sorted _ (Number v) e, line-found strictName bs v small (rw (first-text (Strict (Number v)), own) at h), numbered-some strictName v, first-text (Strict (Number v)), own)
 
 -- the settings
 
 pub record SettingsThere (bs : List ℕ) (p : SettingsFound) : Type 0 where
-  pub lanes : isLanes (p .lanes) ≡ true
-  pub mode : starting (p .mode) ≡ p .mode
-  pub first : firstOf (p .mode) < 2 ^ 32
+  pub told : Sound (p .lanes) (p .mode)
   pub stands : Stands (settings (p .lanes) (p .mode) []) (p .length) bs
 
 settings-parts : (L : ℕ) (m : Mode) → numbered (word "lanes=") L ++ modeText m ≡ settings L m []
@@ -133,16 +131,16 @@ module _ (bs : List ℕ) where
       let g = and-both (isLanes (laned .value)) _ h in
       let l = line-there (word "lanes=") bs (λ n. omega (arith, lanes-of (laned .value) (g .0) .0, no-value (word "lanes=") bs n)) in
       let m = mode-there (drop (laned .length) bs) (some-is (moded .length) (g .1)) in
-      record { lanes = g .0; mode = m .mode; first = m .first; stands = rw (← settings-parts (laned .value) (moded .mode)) (stands-then (l .stands) (m .stands)) })
+      record { told = record { lanes = g .0; mode = m .mode; first = m .first }; stands = rw (← settings-parts (laned .value) (moded .mode)) (stands-then (l .stands) (m .stands)) })
       (λ h z. absurd (apart (sym z)))
 
-  pub settings-found : (L : ℕ) (m : Mode) → isLanes L ≡ true → starting m ≡ m → firstOf m < 2 ^ 32 → begins (settings L m []) bs ≡ true
+  pub settings-found : (L : ℕ) (m : Mode) → Sound L m → begins (settings L m []) bs ≡ true
       → settingsIn bs ≡ record { refusal = Accepted; lanes = L; mode = m; length = length (settings L m []) }
   unfolding settingsIn
-  settings-found L m lanes is first h =
+  settings-found L m told h =
       let l : List ℕ = numbered (word "lanes=") L in
       let p = begins-both l (modeText m) bs (rw (settings-parts L m) h) in
-      rw (line-found (word "lanes=") bs L (omega (arith, lanes-of L lanes)) (p .0), mode-found (drop (length l) bs) m is first (p .1), lanes, mode-some m)
+      rw (line-found (word "lanes=") bs L (omega (arith, lanes-of L (told .lanes))) (p .0), mode-found (drop (length l) bs) m (told .mode) (told .first) (p .1), told .lanes, mode-some m)
       (ap (λ (n : ℕ). record { refusal = Accepted; lanes = L; mode = m; length = n }) (sym (length-append l (modeText m)) ∙ ap length (settings-parts L m)))
 
 -- the count and bytes lines
@@ -220,7 +218,7 @@ module _ (file : List ℕ) where
       let s = settings-there file (g .0) in
       let t = sizes-there (drop (set .length) file) (some-is (sizes .length) (g .1)) in
       record {
-        sound = record { lanes = s .lanes; mode = s .mode; first = s .first; count = t .count; bytes = t .bytes };
+        sound = record { told = s .told; count = t .count; bytes = t .bytes };
         stands = rw (← header-parts (record { lanes = set .lanes; mode = set .mode; count = sizes .count; bytes = sizes .bytes })) (stands-then (s .stands) (t .stands));
       })
       (λ h z. absurd (apart (sym z)))
@@ -232,5 +230,5 @@ module _ (file : List ℕ) where
       let z : List ℕ = sizeText (h .count) (h .bytes) in
       let p = begins-both t z file (rw (header-parts h) b) in
       let some-sizes : some (length z) ≡ true = is-some (length z) (λ e. omega (arith, e)) in
-      rw (settings-found file (h .lanes) (h .mode) (is .lanes) (is .mode) (is .first) (p .0), sizes-found (drop (length t) file) (h .count) (h .bytes) (is .count) (is .bytes) (p .1), some-sizes)
+      rw (settings-found file (h .lanes) (h .mode) (is .told) (p .0), sizes-found (drop (length t) file) (h .count) (h .bytes) (is .count) (is .bytes) (p .1), some-sizes)
       (ap (λ (n : ℕ). record { refusal = Accepted; header = h; start = n }) (sym (length-append t z) ∙ ap length (header-parts h)))

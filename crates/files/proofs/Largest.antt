@@ -2,12 +2,10 @@
 -- width 32.
 use mathlib.Core.Path.{_≡_, sym, _∙_, ap}
 use mathlib.Core.Bool.{true}
-use mathlib.Core.List.{List}
 use Prim.Native.Nat.{ℕ, _+_, _^_, _≤_, _<_}
 use native.Mathlib.Omega.{arith}
 use lib.ListN.{length, length-append}
-use Rattle.answers.specs.Refusals.{accepted}
-use Rattle.layout.specs.Layout.{Below, isLanes}
+use Rattle.layout.specs.Layout.{isLanes}
 use Rattle.layout.proofs.LaneCounts.{for-lanes}
 use Rattle.modes.specs.declared.Mode.{Mode}
 use Rattle.modes.specs.declared.Mode.the-variants.{Plain, Sorted, Strict}
@@ -18,7 +16,6 @@ use Rattle.order.proofs.Beginnings.{starting-first, starting-entries}
 use Rattle.bodies.specs.Body.{bodyOf}
 use Rattle.bodies.proofs.Sizes.{body-short}
 use Rattle.bodies.proofs.Narrow.{total, sorted-total, strict-any, narrow-body}
-use Rattle.lists.specs.Calls.{measureRefusal}
 use Rattle.lists.proofs.Accepts.{Measurable, measure-exactly}
 use Rattle.files.specs.Header.{fileOf, headerText}
 use Rattle.files.specs.kernel.Lengths.{longestHeader}

@@ -1,8 +1,10 @@
 -- Lines written at the front of an output.
-use mathlib.Core.Path.{_≡_, sym, _∙_, ap}
+use mathlib.Core.Path.{_≡_, refl, sym, _∙_, ap}
+use mathlib.Core.Bool.{Bool, true, false, cond}
 use mathlib.Core.List.{List, [], _∷_, _++_, append-assoc}
 use Prim.Native.Nat.{ℕ, _+_, _-_, _≤_}
 use native.Mathlib.Omega.{arith}
+use lib.Dec.{eqb}
 use lib.ListN.{length, length-append}
 use borrow.Rule.Slice.PartMut.{midOf, putMid}
 use Rattle.answers.specs.Answers.{over}
@@ -15,7 +17,8 @@ use Rattle.text.specs.Text.{word, decimal, line}
 use Rattle.text.proofs.Lines.{number-line-short, line-rest}
 use Rattle.files.specs.declared.heading.Header.{Header}
 use Rattle.files.specs.kernel.Lengths.{longestNumberLine, longestModeLine, longestSettings, longestHeader}
-use Rattle.files.specs.Header.{modeWord, firstField, initialText, firstText, settings, fileOf}
+use Rattle.files.specs.Header.{modeWord, firstText, settings, fileOf}
+use Rattle.files.specs.kernel.First.{firstField, initialText}
 
 -- how long lines are
 pub mode-line-short : (m : Mode) → length (line "mode=" (modeWord m) []) ≤ longestModeLine
@@ -23,12 +26,23 @@ mode-line-short Plain = omega arith
 mode-line-short (Sorted f) = omega arith
 mode-line-short (Strict i) = omega arith
 
+-- what `first` says, put, is its text
+pub first-text : (m : Mode) → firstText m ≡ initialText (firstField m)
+first-text Plain = refl
+first-text (Sorted f) = refl
+first-text (Strict None) = refl
+first-text (Strict (Number f)) = go (eqb f 4294967295)
+  where
+    go : (b : Bool) → cond b (word "none") (decimal f) ≡ initialText (cond b None (Number f))
+    go true = refl
+    go false = refl
+
 initial-short : (i : Initial) → length (line "first=" (initialText i) []) ≤ longestNumberLine
 initial-short None = omega arith
 initial-short (Number f) = number-line-short (word "first=") f
 
 pub first-line-short : (m : Mode) → length (line "first=" (firstText m) []) ≤ longestNumberLine
-first-line-short m = initial-short (firstField m)
+first-line-short m = rw (first-text m) (initial-short (firstField m))
 
 -- the three lines of the settings
 pub settings-are : (L : ℕ) (m : Mode) (rest : List ℕ) → line "lanes=" (decimal L) [] ++ (line "mode=" (modeWord m) [] ++ (line "first=" (firstText m) [] ++ rest)) ≡ settings L m rest

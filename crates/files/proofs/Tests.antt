@@ -28,7 +28,8 @@ use Rattle.files.specs.declared.finding.SizeLines.{SizeLines}
 use Rattle.files.specs.declared.SettingsFound.{SettingsFound}
 use Rattle.files.specs.declared.Found.{Found}
 use Rattle.files.specs.declared.HeaderAnswer.{HeaderAnswer}
-use Rattle.files.specs.kernel.Finding.{some, modeText, noneLines, sortedName, sortedLines, strictName, strictLines, modeLinesIn, noSettings, settingsIn, sizeLinesIn, nothingFound, headerFound}
+use Rattle.files.specs.Beside.{noSettings, nothingFound}
+use Rattle.files.specs.kernel.Finding.{some, modeText, noneLines, sortedName, sortedLines, strictName, strictLines, modeLinesIn, settingsIn, sizeLinesIn, headerFound}
 use Rattle.files.specs.Opening.{isSettings, isHeaded, headerIn, bodyIn, isFile, fileFound, headerAnswer}
 use Rattle.files.specs.Calls.{listIn, readFileRefusal, readFileAnswer, readFileOutput}
 use Rattle.files.proofs.FoundLines.{when, is-some, mode-there, settings-there, sizes-there, header-there}

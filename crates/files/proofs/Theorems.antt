@@ -1,7 +1,6 @@
 -- List files, there and back.
 use mathlib.Core.Path.{_≡_, refl, sym, _∙_, ap, ap₂}
 use mathlib.Core.Bool.{Bool, true, false}
-use mathlib.Core.Logic.{_↔_}
 use mathlib.Core.List.{List, [], _++_}
 use Prim.Native.Nat.{ℕ, _+_, _^_, _≤_, _<_}
 use native.Mathlib.Omega.{arith}
@@ -18,13 +17,13 @@ use Rattle.modes.specs.Entries.{firstOf}
 use Rattle.modes.specs.declared.Initial.the-variants.{None, Number}
 use Rattle.modes.specs.declared.Mode.{Mode}
 use Rattle.modes.specs.declared.Mode.the-variants.{Plain, Sorted, Strict}
-use Rattle.order.specs.Order.{starting}
+use Rattle.order.specs.Order.{startingInitial, starting}
 use Rattle.bodies.specs.List.{IsList}
 use Rattle.order.proofs.Beginnings.{starting-first, starting-entries, initial-twice, starting-twice}
 use Rattle.bodies.specs.Body.{bodyOf}
 use Rattle.bodies.proofs.Sizes.{body-short}
 use Rattle.lists.specs.Calls.{measureRefusal, readRefusal}
-use Rattle.lists.proofs.Accepts.{measure-exactly}
+use Rattle.lists.proofs.Accepts.{measure-exactly, writing-parts}
 use Rattle.lists.specs.Demand.{Holds}
 use Rattle.lists.proofs.Demand.{list-read, body-accepted, list-back}
 use Rattle.text.specs.Text.{begins}
@@ -33,15 +32,16 @@ use Rattle.files.specs.declared.HeaderAnswer.{HeaderAnswer}
 use Rattle.files.specs.declared.Found.{Found}
 use Rattle.files.specs.declared.SettingsFound.{SettingsFound}
 use Rattle.files.specs.declared.heading.Header.{Header}
-use Rattle.files.specs.Header.{modeWord, initialText, firstText, settings, fileOf, readBack, headerText, IsHeader, Heads, Sets}
+use Rattle.files.specs.Header.{modeWord, firstText, settings, fileOf, readBack, headerText, IsHeader, Heads, Sets}
 use Rattle.files.specs.kernel.Finding.{settingsIn, headerFound}
-use Rattle.files.specs.Claims.{FoundExactly, OpensExactly, HeaderBack, HeaderAgain, SettingsExactly, SettingsBack}
+use Rattle.files.specs.Claims.{FoundExactly, FoundBack, NothingFound, OpensExactly, HeaderBack, HeaderAgain, SettingsExactly, SettingsBack, NoSettings, WrittenBack, FileWritten, ListBack, FileAgain}
 use Rattle.files.specs.Opening.{isSettings, isHeaded, headerIn, bodyIn, isFile, headerRefusal, headerAnswer, openAnswer}
-use Rattle.files.specs.Calls.{listIn, readFileRefusal, readFileAnswer, readFileOutput, headerFor, fileFor, writeFileAnswer, writeFileOutput}
-use Rattle.files.proofs.Tests.{filed, is-file}
+use Rattle.files.specs.Calls.{listIn, readFileRefusal, readFileAnswer, readFileOutput, headerFor, fileFor, writeFileOutput}
+use Rattle.files.proofs.Tests.{not-set, not-headed, filed, is-file}
 use Rattle.files.proofs.Filing.{file-splits}
 use Rattle.files.proofs.FoundLines.{settings-there, settings-found, header-there, header-found}
-use Rattle.files.proofs.Lines.{settings-rest}
+use Rattle.files.proofs.Lines.{first-text, settings-rest}
+use Rattle.files.specs.kernel.First.{initialText}
 
 -- a header at the front of a file
 
@@ -77,7 +77,7 @@ found-exactly file = (λ h. (headerIn file, (bodyIn file, (found-sound file h, f
 pub header-heads : (file : List ℕ) → isFile file ≡ true → Heads file (headerIn file) (bodyIn file)
 header-heads file h =
     let f = filed file h in
-    record { sound = found-sound file (f .headed); whole = found-whole file (f .headed); told = f .bytes }
+    record { sound = found-sound file (f .headed); whole = found-whole file (f .headed); agrees = f .bytes }
 
 module _ {file : List ℕ} {h : Header} {body : List ℕ} (hd : Heads file h body) where
   found : headerFound file ≡ record { refusal = Accepted; header = h; start = length (headerText h) }
@@ -90,7 +90,7 @@ module _ {file : List ℕ} {h : Header} {body : List ℕ} (hd : Heads file h bod
   body-found = body-behind file h body (hd .sound) (hd .whole)
 
   pub heads-file : isFile file ≡ true
-  heads-file = is-file file (record { headed = ap (λ (f : Found). accepted (f .refusal)) found; bytes = rw (fields-found, body-found) (hd .told) })
+  heads-file = is-file file (record { headed = ap (λ (f : Found). accepted (f .refusal)) found; bytes = rw (fields-found, body-found) (hd .agrees) })
 
   -- a header written is read back as it was, and the body with it
   pub header-back : headerAnswer file ≡ record { refusal = Accepted; header = h }
@@ -107,7 +107,16 @@ opens-exactly file = (there (isFile file) refl, λ x. rw (heads-file (x .1 .1)))
     there true e h = (headerIn file, (bodyIn file, header-heads file e))
     there false e h = absurd (apart (sym (rw e at h)))
 
--- and so the two claims
+-- and so the claims
+pub found-back : FoundBack
+found-back = header-is-found
+
+pub nothing-found : NothingFound
+nothing-found file = not-headed file
+
+pub no-settings-found : NoSettings
+no-settings-found text = not-set text
+
 pub comes-back : HeaderBack
 comes-back file h body hd = (header-back hd, body-back hd)
 
@@ -123,7 +132,7 @@ module _ {text : List ℕ} {L : ℕ} {m : Mode} {rest : List ℕ} (s : Sets text
   split-text = s .whole ∙ sym (settings-rest L m rest)
 
   pub settings-back : settingsIn text ≡ record { refusal = Accepted; lanes = L; mode = m; length = length (settings L m []) }
-  settings-back = settings-found text L m (s .lanes) (s .mode) (s .first) (ap (begins (settings L m [])) split-text ∙ whole-begins (settings L m []) rest)
+  settings-back = settings-found text L m (s .told) (ap (begins (settings L m [])) split-text ∙ whole-begins (settings L m []) rest)
 
   pub rest-found : drop (settingsIn text .length) text ≡ rest
   rest-found = ap (λ (p : SettingsFound). drop (p .length) text) settings-back ∙ ap (drop (length (settings L m []))) split-text ∙ drop-at (settings L m []) rest (length (settings L m [])) refl
@@ -134,9 +143,7 @@ settings-sets text h =
     let L : ℕ = settingsIn text .lanes in
     let m : Mode = settingsIn text .mode in
     record {
-      lanes = t .lanes;
-      mode = t .mode;
-      first = t .first;
+      told = t .told;
       whole = stands-whole (t .stands) ∙ settings-rest L m (drop (settingsIn text .length) text);
     }
 
@@ -153,7 +160,7 @@ settings-told text L m rest s = settings-back s
 first-starting : (m : Mode) → firstText (starting m) ≡ firstText m
 first-starting Plain = refl
 first-starting (Sorted f) = refl
-first-starting (Strict i) = ap initialText (initial-twice i)
+first-starting (Strict i) = first-text (Strict (startingInitial i)) ∙ ap initialText (initial-twice i) ∙ sym (first-text (Strict i))
 
 mode-starting : (m : Mode) → modeWord (starting m) ≡ modeWord m
 mode-starting Plain = refl
@@ -165,12 +172,12 @@ unfolding fileOf
 same-text h body = rw (first-starting (h .mode), mode-starting (h .mode))
 
 -- a header with any mode, written, is read back so
-pub written-back : (h : Header) (body : List ℕ) → isLanes (h .lanes) ≡ true → firstOf (h .mode) < 2 ^ 32 → h .count < 2 ^ 32 → h .bytes < 2 ^ 32 → h .bytes ≡ length body → Heads (fileOf h body) (readBack h) body
-written-back h body lanes first count bytes told =
+pub written-back : WrittenBack
+written-back h body lanes first count bytes agrees =
     record {
-      sound = record { lanes = lanes; mode = starting-twice (h .mode); first = rw (starting-first (h .mode)) first; count = count; bytes = bytes };
+      sound = record { told = record { lanes = lanes; mode = starting-twice (h .mode); first = rw (starting-first (h .mode)) first }; count = count; bytes = bytes };
       whole = sym (same-text h body);
-      told = told;
+      agrees = agrees;
     }
 
 -- lists in files
@@ -180,11 +187,10 @@ unfolding bodyOf
 body-starting L m vs = rw (starting-entries m vs)
 
 -- given a list and room, writing is accepted, and leaves exactly the list's file
-pub file-written : (L : ℕ) (m : Mode) (vs before : List ℕ) → isLanes L ≡ true → IsList m (length vs) vs → length (fileFor L m vs) ≤ length before
-    → (writeFileAnswer L m vs (length before) ≡ record { refusal = Accepted; length = length (fileFor L m vs) }) × (writeFileOutput L m vs before ≡ over (fileFor L m vs) before)
+pub file-written : FileWritten
 file-written L m vs before lanes l room =
     let k : measureRefusal L m vs ≡ Accepted = accepted-is _ (measure-exactly L m vs .1 (record { lanes = lanes; few = l .few; order = l .order })) in
-    rw (k, le-ltb (length before) (length (fileFor L m vs)) room) (refl, refl)
+    rw (writing-parts L m vs (length (fileFor L m vs)) (length before), k, le-ltb (length before) (length (fileFor L m vs)) room) (refl, refl)
 
 -- a file accepted, written again from what was read, is the same bytes
 module _ (file : List ℕ) (room : ℕ) (bytes : Below 256 file) (h : accepted (readFileRefusal file room) ≡ true) where
@@ -193,12 +199,12 @@ module _ (file : List ℕ) (room : ℕ) (bytes : Below 256 file) (h : accepted (
 
   pub held : Holds (headerIn file .lanes) (headerIn file .mode) (headerIn file .count) (bodyIn file) (listIn file)
   held =
-      list-read (headerIn file .lanes) (headerIn file .mode) (opened .sound .lanes) (opened .sound .first) (headerIn file .count) room (bodyIn file) (below-drop (headerFound file .start) file bytes) (both (headerRefusal file) _ h .1)
+      list-read (headerIn file .lanes) (headerIn file .mode) (opened .sound .told .lanes) (headerIn file .count) room (bodyIn file) (below-drop (headerFound file .start) file bytes) (both (headerRefusal file) _ h .1)
 
   pub same-file : fileFor (headerIn file .lanes) (headerIn file .mode) (listIn file) ≡ file
   unfolding fileFor
   same-file =
-      let same : headerFor (headerIn file .lanes) (headerIn file .mode) (listIn file) ≡ headerIn file = rw (held .list .size, ← held .body, ← opened .told) in
+      let same : headerFor (headerIn file .lanes) (headerIn file .mode) (listIn file) ≡ headerIn file = rw (held .list .size, ← held .body, ← opened .agrees) in
       rw (same, ← held .body) (sym (opened .whole))
 
   pub file-again : (before : List ℕ) → length file ≤ length before
@@ -206,7 +212,7 @@ module _ (file : List ℕ) (room : ℕ) (bytes : Below 256 file) (h : accepted (
   file-again before enough =
       let e : headerAnswer file .header ≡ headerIn file = rw (heads-file opened) in
       let l : IsList (headerIn file .mode) (length (listIn file)) (listIn file) = rw (held .list .size) (held .list) in
-      rw e (file-written (headerIn file .lanes) (headerIn file .mode) (listIn file) before (opened .sound .lanes) l (rw same-file enough) .1 ∙ ap (λ (t : List ℕ). over t before) same-file)
+      rw e (file-written (headerIn file .lanes) (headerIn file .mode) (listIn file) before (opened .sound .told .lanes) l (rw same-file enough) .1 ∙ ap (λ (t : List ℕ). over t before) same-file)
 
 -- a file written is accepted and gives the list back
 module _ (L : ℕ) (m : Mode) (vs : List ℕ) (lanes : isLanes L ≡ true) (first : firstOf m < 2 ^ 32) (l : IsList m (length vs) vs) where
@@ -229,18 +235,15 @@ module _ (L : ℕ) (m : Mode) (vs : List ℕ) (lanes : isLanes L ≡ true) (firs
         body = sym (body-starting L m vs);
       }
 
-  small : firstOf (starting m) < 2 ^ 32
-  small = rw (starting-first m) first
-
   -- whatever the room, if there is room for the list
   pub file-accepted : (room : ℕ) → length vs ≤ room → readFileRefusal (fileFor L m vs) room ≡ Accepted
   file-accepted room enough =
-      let k : readRefusal L (starting m) (length vs) (bodyOf L m vs) room ≡ Accepted = accepted-is _ (body-accepted L (starting m) lanes small holds room enough) in
+      let k : readRefusal L (starting m) (length vs) (bodyOf L m vs) room ≡ Accepted = accepted-is _ (body-accepted L (starting m) lanes holds room enough) in
       rw (heads-file heads, fields-found heads, body-found heads, k)
 
   pub file-list-back : listIn (fileFor L m vs) ≡ vs
   file-list-back =
-      rw (fields-found heads, body-found heads) (list-back L (starting m) lanes small holds)
+      rw (fields-found heads, body-found heads) (list-back L (starting m) lanes holds)
 
   pub file-read-back : (out : List ℕ) → length vs ≤ length out → (readFileAnswer (fileFor L m vs) (length out) ≡ record { refusal = Accepted; length = length vs }) × (readFileOutput (fileFor L m vs) out ≡ over vs out)
   file-read-back out room =
@@ -249,3 +252,10 @@ module _ (L : ℕ) (m : Mode) (vs : List ℕ) (lanes : isLanes L ≡ true) (firs
 
 pub last-is-none : starting (Strict (Number 4294967295)) ≡ Strict None
 last-is-none = refl
+
+-- the claims of lists in files
+pub lists-back : ListBack
+lists-back = file-read-back
+
+pub files-again : FileAgain
+files-again = file-again

@@ -1,17 +1,15 @@
 -- Reading and writing a list file: which refusal is given, what is answered, and what is left in lent memory.
 use mathlib.Core.List.{List}
 use Prim.Native.Nat.{ℕ}
-use lib.Dec.{ltb}
 use lib.ListN.{length}
 use Rattle.modes.specs.declared.Mode.{Mode}
 use Rattle.answers.specs.declared.Answer.{Answer}
 use Rattle.answers.specs.declared.Refusal.{Refusal}
-use Rattle.answers.specs.declared.Refusal.the-variants.{Accepted, NoRoom}
-use Rattle.answers.specs.Refusals.{refuse, orElse}
+use Rattle.answers.specs.Refusals.{orElse}
 use Rattle.answers.specs.Answers.{answer, written}
 use Rattle.bodies.specs.Body.{bodyOf}
 use Rattle.bodies.specs.Reading.{listOf}
-use Rattle.lists.specs.Calls.{measureRefusal, readRefusal}
+use Rattle.lists.specs.Calls.{writingRefusal, readRefusal}
 use Rattle.files.specs.declared.heading.Header.{Header}
 use Rattle.files.specs.Header.{fileOf}
 use Rattle.files.specs.Opening.{headerIn, bodyIn, headerRefusal}
@@ -39,10 +37,7 @@ fileFor L m vs = fileOf (headerFor L m vs) (bodyOf L m vs)
 
 -- "Write a file: 1, 7, 8, 4, with room for header and body"
 abbrev pub writeFileRefusal : ℕ → Mode → List ℕ → ℕ → Refusal
-writeFileRefusal L m vs room =
-    orElse (measureRefusal L m vs)
-    (refuse (ltb room (length (fileFor L m vs))) NoRoom
-    Accepted)
+writeFileRefusal L m vs room = writingRefusal L m vs (length (fileFor L m vs)) room
 
 abbrev pub writeFileAnswer : ℕ → Mode → List ℕ → ℕ → Answer
 writeFileAnswer L m vs room = answer (writeFileRefusal L m vs room) (length (fileFor L m vs))

@@ -1,22 +1,25 @@
--- What is claimed of list files: which bytes are one, and that headers and files come back as they were. Each claim is proved by one name
--- (proofs/Theorems, proofs/Largest). How a header is found (kernel/Finding) need not be believed: these say what is found.
+-- What is claimed of list files: which bytes are one, and that headers, lists and files come back as they were. Each claim is proved by one
+-- name (proofs/Theorems, proofs/Largest). How a header is found (kernel/Finding) need not be believed: these say what is found.
 use mathlib.Core.Path.{_≡_}
-use mathlib.Core.Bool.{true}
+use mathlib.Core.Bool.{true, false}
 use mathlib.Core.Logic.{_↔_}
 use mathlib.Core.List.{List, []}
 use Prim.Native.Nat.{ℕ, _^_, _≤_, _<_}
 use lib.ListN.{length}
 use Rattle.answers.specs.declared.Refusal.the-variants.{Accepted}
 use Rattle.answers.specs.Refusals.{accepted}
-use Rattle.layout.specs.Layout.{Below}
+use Rattle.answers.specs.Answers.{over}
+use Rattle.layout.specs.Layout.{Below, isLanes}
+use Rattle.bodies.specs.List.{IsList}
 use Rattle.modes.specs.declared.Mode.{Mode}
 use Rattle.modes.specs.Entries.{firstOf}
 use Rattle.lists.specs.Calls.{measureRefusal}
 use Rattle.files.specs.declared.heading.Header.{Header}
-use Rattle.files.specs.Header.{settings, fileOf, IsHeader, Heads, Sets}
+use Rattle.files.specs.Header.{settings, fileOf, readBack, headerText, IsHeader, Heads, Sets}
+use Rattle.files.specs.Beside.{nothingFound, noSettings}
 use Rattle.files.specs.Opening.{isSettings, isHeaded, headerRefusal, headerAnswer, openAnswer}
-use Rattle.files.specs.kernel.Finding.{settingsIn}
-use Rattle.files.specs.Calls.{fileFor}
+use Rattle.files.specs.kernel.Finding.{settingsIn, headerFound}
+use Rattle.files.specs.Calls.{listIn, readFileRefusal, readFileAnswer, readFileOutput, fileFor, writeFileAnswer, writeFileOutput}
 
 -- accepted are exactly the bytes that some header writes, with `bytes` equal to the length of what follows
 abbrev pub OpensExactly : Type 0
@@ -26,7 +29,14 @@ OpensExactly = (file : List ℕ) → (accepted (headerRefusal file) ≡ true) �
 abbrev pub FoundExactly : Type 0
 FoundExactly = (file : List ℕ) → (isHeaded file ≡ true) ↔ ((h : Header) × ((body : List ℕ) × (IsHeader h × (file ≡ fileOf h body))))
 
--- such a header is what the header call hands out, and what stands behind it is what the opener hands back
+-- that header is the one that is found, and the body starts where its text ends; where there is none, nothing is found
+abbrev pub FoundBack : Type 0
+FoundBack = (file : List ℕ) (h : Header) (body : List ℕ) → IsHeader h → file ≡ fileOf h body → headerFound file ≡ record { refusal = Accepted; header = h; start = length (headerText h) }
+
+abbrev pub NothingFound : Type 0
+NothingFound = (file : List ℕ) → isHeaded file ≡ false → headerFound file ≡ nothingFound
+
+-- a header whose `bytes` agrees is what the header call hands out, and what stands behind it is what the opener hands back
 abbrev pub HeaderBack : Type 0
 HeaderBack = (file : List ℕ) (h : Header) (body : List ℕ) → Heads file h body → (headerAnswer file ≡ record { refusal = Accepted; header = h }) × (openAnswer file ≡ body)
 
@@ -40,6 +50,32 @@ SettingsExactly = (text : List ℕ) → (isSettings text ≡ true) ↔ ((L : ℕ
 
 abbrev pub SettingsBack : Type 0
 SettingsBack = (text : List ℕ) (L : ℕ) (m : Mode) (rest : List ℕ) → Sets text L m rest → settingsIn text ≡ record { refusal = Accepted; lanes = L; mode = m; length = length (settings L m []) }
+
+abbrev pub NoSettings : Type 0
+NoSettings = (text : List ℕ) → isSettings text ≡ false → settingsIn text ≡ noSettings
+
+-- a header with any mode, written, is read back as it was, and with none for strict's 4,294,967,295
+abbrev pub WrittenBack : Type 0
+WrittenBack =
+    (h : Header) (body : List ℕ) → isLanes (h .lanes) ≡ true → firstOf (h .mode) < 2 ^ 32 → h .count < 2 ^ 32 → h .bytes < 2 ^ 32 → h .bytes ≡ length body
+    → Heads (fileOf h body) (readBack h) body
+
+-- given a list and room, writing is accepted and leaves exactly the list's file; that file, with room for the list, gives the list back
+abbrev pub FileWritten : Type 0
+FileWritten =
+    (L : ℕ) (m : Mode) (vs before : List ℕ) → isLanes L ≡ true → IsList m (length vs) vs → length (fileFor L m vs) ≤ length before
+    → (writeFileAnswer L m vs (length before) ≡ record { refusal = Accepted; length = length (fileFor L m vs) }) × (writeFileOutput L m vs before ≡ over (fileFor L m vs) before)
+
+abbrev pub ListBack : Type 0
+ListBack =
+    (L : ℕ) (m : Mode) (vs : List ℕ) → isLanes L ≡ true → firstOf m < 2 ^ 32 → IsList m (length vs) vs → (out : List ℕ) → length vs ≤ length out
+    → (readFileAnswer (fileFor L m vs) (length out) ≡ record { refusal = Accepted; length = length vs }) × (readFileOutput (fileFor L m vs) out ≡ over vs out)
+
+-- a file accepted, written again from what was read with what the header call handed out, is the same bytes
+abbrev pub FileAgain : Type 0
+FileAgain =
+    (file : List ℕ) (room : ℕ) → Below 256 file → accepted (readFileRefusal file room) ≡ true → (before : List ℕ) → length file ≤ length before
+    → writeFileOutput (headerAnswer file .header .lanes) (headerAnswer file .header .mode) (listIn file) before ≡ over file before
 
 -- no file is longer than 16,566 bytes
 abbrev pub LargestFile : Type 0

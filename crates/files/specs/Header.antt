@@ -1,16 +1,16 @@
 -- "List file" of document 01: a header, and its text.
 use mathlib.Core.Path.{_≡_}
-use mathlib.Core.Bool.{true}
+use mathlib.Core.Bool.{true, cond}
 use mathlib.Core.List.{List, [], _∷_}
 use Prim.Native.Nat.{ℕ, _^_, _<_}
+use lib.Dec.{eqb}
 use lib.ListN.{length}
-use Rattle.modes.specs.declared.Initial.{Initial}
 use Rattle.modes.specs.declared.Initial.the-variants.{None, Number}
 use Rattle.modes.specs.declared.Mode.{Mode}
 use Rattle.modes.specs.declared.Mode.the-variants.{Plain, Sorted, Strict}
 use Rattle.modes.specs.Entries.{firstOf}
 use Rattle.layout.specs.Layout.{isLanes}
-use Rattle.order.specs.Order.{startingInitial, starting}
+use Rattle.order.specs.Order.{starting}
 use Rattle.text.specs.Text.{word, decimal, line}
 use Rattle.files.specs.declared.heading.Header.{Header}
 
@@ -22,17 +22,11 @@ modeWord (Strict i) = word "strict"
 
 -- "`first` is `none` for plain, a number for sorted, and `none` or a number up to 4,294,967,294 for strict; strict with
 -- 4,294,967,295 is written `none`."
-abbrev pub firstField : Mode → Initial
-firstField Plain = None
-firstField (Sorted f) = Number f
-firstField (Strict i) = startingInitial i
-
-abbrev pub initialText : Initial → List ℕ
-initialText None = word "none"
-initialText (Number f) = decimal f
-
 abbrev pub firstText : Mode → List ℕ
-firstText m = initialText (firstField m)
+firstText Plain = word "none"
+firstText (Sorted f) = decimal f
+firstText (Strict None) = word "none"
+firstText (Strict (Number f)) = cond (eqb f 4294967295) (word "none") (decimal f)
 
 -- "Order: `lanes=` 1, 4 or 8; `mode=` ..; `first=`; ..": the three lines that say how a list is packed, with a rest behind them
 abbrev pub settings : ℕ → Mode → List ℕ → List ℕ
@@ -58,11 +52,15 @@ readBack h = record { lanes = h .lanes; mode = starting (h .mode); count = h .co
 abbrev pub headerText : Header → List ℕ
 headerText h = fileOf h []
 
--- the headers that there are: "`lanes=` 1, 4 or 8", "numbers .. at most 4,294,967,295", and no 4,294,967,295 in strict
+-- the lanes and modes that a header tells: "`lanes=` 1, 4 or 8", a first number "at most 4,294,967,295", and not that one in strict
+pub record Sound (L : ℕ) (m : Mode) : Type 0 where
+  pub lanes : isLanes L ≡ true
+  pub mode : starting m ≡ m
+  pub first : firstOf m < 2 ^ 32
+
+-- the headers that there are: these, with "numbers .. at most 4,294,967,295"
 pub record IsHeader (h : Header) : Type 0 where
-  pub lanes : isLanes (h .lanes) ≡ true
-  pub mode : starting (h .mode) ≡ h .mode
-  pub first : firstOf (h .mode) < 2 ^ 32
+  pub told : Sound (h .lanes) (h .mode)
   pub count : h .count < 2 ^ 32
   pub bytes : h .bytes < 2 ^ 32
 
@@ -70,11 +68,9 @@ pub record IsHeader (h : Header) : Type 0 where
 pub record Heads (file : List ℕ) (h : Header) (body : List ℕ) : Type 0 where
   pub sound : IsHeader h
   pub whole : file ≡ fileOf h body
-  pub told : h .bytes ≡ length body
+  pub agrees : h .bytes ≡ length body
 
 -- a text is the three lines of the settings, for some lanes and mode, with a rest behind them
 pub record Sets (text : List ℕ) (L : ℕ) (m : Mode) (rest : List ℕ) : Type 0 where
-  pub lanes : isLanes L ≡ true
-  pub mode : starting m ≡ m
-  pub first : firstOf m < 2 ^ 32
+  pub told : Sound L m
   pub whole : text ≡ settings L m rest

@@ -1,4 +1,5 @@
 pub mod Header
+pub mod Beside
 pub mod Opening
 pub mod Calls
 pub mod kernel

@@ -1,5 +1,5 @@
 -- Opening a list file. A file begins with a header where its lines are found one behind another (kernel/Finding), and is one where `bytes` is
--- the length of what follows. That this accepts exactly the files that some header writes is a theorem (proofs/Theorems, opens-exactly).
+-- the length of what follows. That this accepts exactly the files that some header writes is a claim (Claims, OpensExactly).
 use mathlib.Core.Bool.{Bool, not, _&&_, cond}
 use mathlib.Core.List.{List, []}
 use Prim.Native.Nat.{ℕ}
@@ -11,7 +11,8 @@ use Rattle.answers.specs.Refusals.{accepted, refuse}
 use Rattle.files.specs.declared.heading.Header.{Header}
 use Rattle.files.specs.declared.HeaderAnswer.{HeaderAnswer}
 use Rattle.files.specs.declared.Found.{Found}
-use Rattle.files.specs.kernel.Finding.{settingsIn, noHeader, nothingFound, headerFound}
+use Rattle.files.specs.Beside.{noHeader, nothingFound}
+use Rattle.files.specs.kernel.Finding.{settingsIn, headerFound}
 
 -- whether a text or a file begins with the lanes, mode and first lines
 abbrev pub isSettings : List ℕ → Bool

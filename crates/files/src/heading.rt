@@ -10,7 +10,8 @@ ghost use Prim.Native.Nat.{_+_, _≤_};
 ghost use lib.ListN.{length};
 ghost use Rattle.answers.specs.Answers.{over};
 ghost use Rattle.text.specs.Text.{line, numbered};
-ghost use Rattle.files.specs.Header.{modeWord, firstField, firstText, settings, headerText};
+ghost use Rattle.files.specs.Header.{modeWord, firstText, settings, headerText};
+ghost use Rattle.files.specs.kernel.First.{firstField};
 ghost use Rattle.files.specs.kernel.Lengths.{longestNumberLine, longestModeLine, longestSettings, longestHeader};
 
 // What the five lines say.

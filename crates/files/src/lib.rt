@@ -13,7 +13,8 @@ use text::number_line;
 use text::put;
 ghost use mathlib.Core.Path.{_≡_};
 ghost use lib.ListN.{length};
-ghost use Rattle.files.specs.kernel.Finding.{settingsIn, nothingFound, headerFound};
+ghost use Rattle.files.specs.Beside.{nothingFound};
+ghost use Rattle.files.specs.kernel.Finding.{settingsIn, headerFound};
 ghost use Rattle.files.specs.Opening.{fileFound, headerAnswer, openAnswer};
 ghost use Rattle.files.specs.Calls.{readFileAnswer, readFileOutput, writeFileAnswer, writeFileOutput};
 

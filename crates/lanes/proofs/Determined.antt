@@ -1,12 +1,15 @@
 -- For each public function of the crate: it asks nothing of its caller; two answers that its contract allows for one input are equal, and so
 -- is what it leaves in the memory that it was lent to write.
 use mathlib.Core.Path.{sym, _∙_}
-use Rattle.answers.proofs.Contracts.{AsksNothing, AnswerDetermined}
-use Rattle.lanes.proofs.Rows.{row-once, RowDetermined}
+use Rattle.answers.specs.Contracts.{AsksNothing, AnswerDetermined}
+use Rattle.lanes.specs.Contracts.{RowDetermined}
+use Rattle.lanes.proofs.Rows.{row-once}
 use Rattle.lanes.proofs.is_lanes.Reads as is-lanes
 use Rattle.lanes.proofs.is_lanes.Kinds as is-lanes-kinds
 use Rattle.lanes.proofs.most_significant_bit.Reads as most-significant-bit
 use Rattle.lanes.proofs.most_significant_bit.Kinds as most-significant-bit-kinds
+use Rattle.lanes.proofs.wide.Reads as wide
+use Rattle.lanes.proofs.wide.Kinds as wide-kinds
 use Rattle.lanes.proofs.scalar.set1.Reads as set1
 use Rattle.lanes.proofs.scalar.set1.Kinds as set1-kinds
 use Rattle.lanes.proofs.scalar.left_shift_32.Reads as left-shift-32
@@ -43,6 +46,12 @@ most-significant-bit-asks-nothing κs a = tt
 
 most-significant-bit-determined : AnswerDetermined most-significant-bit-kinds.ps most-significant-bit-kinds.r most-significant-bit.Post
 most-significant-bit-determined κs a z z′ e e′ p q = p ∙ sym q
+
+wide-asks-nothing : AsksNothing wide-kinds.ps wide.Pre
+wide-asks-nothing κs a = tt
+
+wide-determined : AnswerDetermined wide-kinds.ps wide-kinds.r wide.Post
+wide-determined κs a z z′ e e′ p q = p .0 ∙ sym (q .0)
 
 set1-asks-nothing : AsksNothing set1-kinds.ps set1.Pre
 set1-asks-nothing κs a = tt

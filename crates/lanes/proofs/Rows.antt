@@ -3,9 +3,6 @@ use mathlib.Core.Path.{_≡_, refl, sym, _∙_, ap}
 use mathlib.Core.List.{List, [], _∷_}
 use Prim.Native.Nat.{ℕ, zero, suc, _<_}
 use native.Mathlib.Omega.{arith}
-use contract.Lifetimes.{Lfts}
-use denote.Triple.Clauses.{AtExit}
-use borrow.Fn.Kinds.{PK, RK, Out, Dens, resT, endedOf}
 use lib.ListN.{length}
 use lib.Seq.{ext-getD}
 use Rattle.layout.specs.Layout.{at}
@@ -28,11 +25,6 @@ lane-of r (suc (suc (suc (suc (suc (suc (suc (suc l)))))))) h = absurd (omega ar
 pub row-once : {x y : List ℕ} {f : ℕ → ℕ} → length x ≡ 8 → length y ≡ 8 → IsRow x f → IsRow y f → x ≡ y
 row-once {x} {y} {f} a b p q =
     ext-getD 0 x y (a ∙ sym b) (λ l h. lane-of p l (omega arith) ∙ sym (lane-of q l (omega arith)))
-
--- A contract that answers a row determines it: a row is eight numbers by its type.
-module _ {n : ℕ} (ps : List (PK n)) (r : RK n) (Post : Out n ps r) (row : (κs : Lfts n) → resT r κs .Denot → List ℕ) where
-  abbrev pub RowDetermined : Type 0
-  RowDetermined = (κs : Lfts n) (a : Dens κs ps) (z z′ : resT r κs .Denot) (e e′ : AtExit (endedOf n ps r) κs) → length (row κs z) ≡ 8 → length (row κs z′) ≡ 8 → Post κs a z e → Post κs a z′ e′ → row κs z ≡ row κs z′
 
 -- a row of running sums, written out
 pub sums : {p q : ℕ} (x : List ℕ) {a b c d e f g h : ℕ} → q ≡ p → a ≡ plus q (at x 0) → b ≡ plus a (at x 1) → c ≡ plus b (at x 2) → d ≡ plus c (at x 3)

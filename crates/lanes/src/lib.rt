@@ -1,5 +1,6 @@
-// How many lanes there may be, rows of numbers, one for each lane, and the width of one number.
+// How many lanes there may be, rows of numbers, one for each lane, the width of one number, and a byte as a number.
 ghost use mathlib.Core.Path.{_≡_};
+ghost use Prim.Native.Nat.{_<_};
 ghost use Rattle.layout.specs.Layout.{isLanes};
 ghost use Rattle.layout.specs.Width.{significant};
 
@@ -28,4 +29,12 @@ pub fn most_significant_bit(v: u32) -> u32
     } else {
         32 - u32::leading_zeros(v)
     }
+}
+
+// A byte as a number.
+pub fn wide(byte: u8) -> u32
+    ensures { λ r. ⌜ r ≡ byte ⌝ }
+    ensures { λ r. ⌜ r < 256 ⌝ }
+{
+    byte as u32
 }

@@ -2,12 +2,12 @@
 use mathlib.Core.Path.{_≡_, sym, _∙_, ap}
 use mathlib.Core.List.{List, [], append-nil}
 use Prim.Native.Nat.{ℕ, _+_, _*_, _/_, _%_, _^_, _<_}
-use native.Mathlib.Nat.{zero-add, mod-lt, mod-eq-of-lt, div-add-mod', div-lt-iff-lt-mul, le-refl}
+use native.Mathlib.Nat.{zero-add, mod-lt, mod-eq-of-lt, div-add-mod', div-lt-iff-lt-mul}
 use native.Mathlib.Omega.{arith}
 use lib.ListN.{length}
 use lib.Seq.{take-all}
-use Rattle.layout.specs.Layout.{at, Below, blockSize, payloadSize, bit, packed, payloadByte, payloadEntry}
-use Rattle.layout.specs.Claims.{LaidOut, Fit, PacksOnly, OnePayload, UnpacksOnly, OneBlock, FitsTells, LeastWidth}
+use Rattle.layout.specs.Layout.{Below, blockSize, payloadSize, bit, packed, payloadByte, payloadEntry}
+use Rattle.layout.specs.Claims.{LaidOut, Fit, OnePayload, OneBlock, FitsTells, LeastWidth}
 use Rattle.layout.proofs.Products.{below-mul, factor-pos}
 use Rattle.layout.proofs.Strings.{number-of, number-lt}
 use Rattle.layout.proofs.Lanes.{entry-bits}

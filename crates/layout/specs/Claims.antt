@@ -6,7 +6,7 @@ use mathlib.Core.Logic.{_↔_}
 use mathlib.Core.List.{List}
 use Prim.Native.Nat.{ℕ, _+_, _*_, _/_, _%_, _^_, _≤_, _<_}
 use lib.ListN.{length}
-use Rattle.layout.specs.Layout.{at, Below, blockSize, payloadSize, bit, packed, payloadEntry, wordAt}
+use Rattle.layout.specs.Layout.{Below, blockSize, payloadSize, bit, packed, payloadEntry, wordAt}
 use Rattle.layout.specs.Width.{fits, leastWidth, orAll, significant}
 
 -- the bytes bs are a payload of the entries e 0, e 1, .. at width n

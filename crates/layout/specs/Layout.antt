@@ -35,9 +35,9 @@ unfoldable pub bit : ℕ → ℕ → ℕ
 bit x j = x / 2 ^ j % 2
 
 -- the number of m bits that stands in the string of bits b from bit s on, bit 0 lowest
-unfoldable pub number : (ℕ → ℕ) → ℕ → ℕ → ℕ
-number b s zero = 0
-number b s (suc m) = b (s + m) * 2 ^ m + number b s m
+unfoldable pub ofBits : (ℕ → ℕ) → ℕ → ℕ → ℕ
+ofBits b s zero = 0
+ofBits b s (suc m) = b (s + m) * 2 ^ m + ofBits b s m
 
 -- "Entry k is in lane k mod L and row k div L .. Bit j of row r is bit p = rn + j of its lane."
 -- Lane l of the entries e 0, e 1, .., as a string of bits: bit p is bit p mod n of row p div n. (At n = 0 it has no bits.)
@@ -51,7 +51,7 @@ byteBits L bs l p = bit (at bs (4 * (p / 32 * L + l) + p % 32 / 8)) (p % 32 % 8)
 
 -- byte i of the payload of the entries e: byte i mod 4 of word w of lane l, where i div 4 = wL + l
 unfoldable pub payloadByte : ℕ → ℕ → (ℕ → ℕ) → ℕ → ℕ
-payloadByte L n e i = number (entryBits L n e (i / 4 % L)) (32 * (i / 4 / L) + 8 * (i % 4)) 8
+payloadByte L n e i = ofBits (entryBits L n e (i / 4 % L)) (32 * (i / 4 / L) + 8 * (i % 4)) 8
 
 -- the payload of the entries e
 unfoldable pub packed : ℕ → ℕ → (ℕ → ℕ) → List ℕ
@@ -59,11 +59,10 @@ packed L n e = table (payloadByte L n e) (payloadSize L n)
 
 -- entry k of the payload bs: the n bits of row k div L in lane k mod L
 unfoldable pub payloadEntry : ℕ → ℕ → List ℕ → ℕ → ℕ
-payloadEntry L n bs k = number (byteBits L bs (k % L)) (k / L * n) n
+payloadEntry L n bs k = ofBits (byteBits L bs (k % L)) (k / L * n) n
 
 -- So entryBits and payloadByte say the layout from the entries' side, byteBits and payloadEntry from the bytes'. The sentence
--- itself is a theorem (proofs/RoundTrip, bit-of-entry), over words as the next definition has them:
--- bit j of entry rL + l is bit (rn + j) mod 32 of the word at byte 4(((rn + j) div 32)L + l).
+-- itself is a claim (Claims, LaidOut), over words as the next definition has them.
 
 -- the word of four bytes that starts at byte i, lowest byte first
 abbrev pub wordAt : List ℕ → ℕ → ℕ

@@ -1,21 +1,22 @@
 -- Each call is accepted exactly when every one of its tests passes.
 use mathlib.Core.Path.{_≡_, refl}
-use mathlib.Core.Bool.{true}
+use mathlib.Core.Bool.{Bool, true, false, not}
 use mathlib.Core.Logic.{_↔_}
 use mathlib.Core.List.{List}
 use Prim.Native.Nat.{ℕ, _≤_, min}
 use borrow.Author.Tests.{ltb-false, le-ltb, not-false}
+use lib.Dec.{ltb}
 use lib.ListN.{length}
 use Rattle.modes.specs.declared.Mode.{Mode}
 use Rattle.answers.specs.declared.Refusal.the-variants.{Accepted, BadLanes, NoRoom, TooMany, OutOfOrder}
-use Rattle.answers.specs.Refusals.{accepted}
+use Rattle.answers.specs.Refusals.{accepted, refuse, orElse}
 use Rattle.layout.specs.Layout.{blockSize, isLanes}
 use Rattle.answers.proofs.Refusals.{passed, both}
 use Rattle.order.specs.Order.{starting, ordered}
 use Rattle.bodies.specs.List.{most}
 use Rattle.bodies.specs.Body.{bodyOf}
 use Rattle.bodies.specs.Reading.{blockRefusal, bodyRefusal}
-use Rattle.lists.specs.Calls.{measureRefusal, writeRefusal, readRefusal}
+use Rattle.lists.specs.Calls.{measureRefusal, writingRefusal, writeRefusal, readRefusal}
 use Rattle.lists.specs.Parts.{readBlockRefusal}
 
 -- what measuring accepts
@@ -40,12 +41,25 @@ pub record Writable (L : ℕ) (m : Mode) (vs : List ℕ) (room : ℕ) : Type 0 w
   pub list : Measurable L m vs
   pub enough : length (bodyOf L m vs) ≤ room
 
+-- what the values are refused for, and then 4
+pub writing-parts : (L : ℕ) (m : Mode) (vs : List ℕ) (size room : ℕ) → writingRefusal L m vs size room ≡ orElse (measureRefusal L m vs) (refuse (ltb room size) NoRoom Accepted)
+unfolding measureRefusal
+writing-parts L m vs size room = go (not (isLanes L)) (ltb most (length vs)) (not (ordered (starting m) vs))
+  where
+    go : (a b c : Bool)
+        → refuse a BadLanes (refuse b TooMany (refuse c OutOfOrder (refuse (ltb room size) NoRoom Accepted)))
+        ≡ orElse (refuse a BadLanes (refuse b TooMany (refuse c OutOfOrder Accepted))) (refuse (ltb room size) NoRoom Accepted)
+    go true b c = refl
+    go false true c = refl
+    go false false true = refl
+    go false false false = refl
+
 pub write-exactly : (L : ℕ) (m : Mode) (vs : List ℕ) (room : ℕ) → (accepted (writeRefusal L m vs room) ≡ true) ↔ Writable L m vs room
-write-exactly L m vs room = (there, λ s. rw (measure-exactly L m vs .1 (s .list), le-ltb room (length (bodyOf L m vs)) (s .enough)))
+write-exactly L m vs room = (there, λ s. rw (writing-parts L m vs (length (bodyOf L m vs)) room, measure-exactly L m vs .1 (s .list), le-ltb room (length (bodyOf L m vs)) (s .enough)))
   where
     there : accepted (writeRefusal L m vs room) ≡ true → Writable L m vs room
     there h =
-        let a = both (measureRefusal L m vs) _ h in
+        let a = both (measureRefusal L m vs) _ (rw (writing-parts L m vs (length (bodyOf L m vs)) room) at h) in
         let b = passed _ NoRoom Accepted refl (a .1) in
         record { list = measure-exactly L m vs .0 (a .0); enough = ltb-false room (length (bodyOf L m vs)) (b .0) }
 

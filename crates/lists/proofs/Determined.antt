@@ -1,7 +1,7 @@
 -- For each public function of the crate: it asks nothing of its caller; two answers that its contract allows for one input are equal, and so
 -- is what it leaves in the memory that it was lent to write.
 use mathlib.Core.Path.{sym, _∙_}
-use Rattle.answers.proofs.Contracts.{AsksNothing, AnswerDetermined, Determined}
+use Rattle.answers.specs.Contracts.{AsksNothing, AnswerDetermined, Determined}
 use Rattle.lists.proofs.measure.Reads as measure
 use Rattle.lists.proofs.measure.Kinds as measure-kinds
 use Rattle.lists.proofs.write.Reads as write
@@ -27,13 +27,13 @@ write-asks-nothing : AsksNothing write-kinds.ps write.Pre
 write-asks-nothing κs a = tt
 
 write-determined : Determined write-kinds.ps write-kinds.r write.Post (λ κs e. e .1 .1 .1 .0 .now)
-write-determined κs a z z′ e e′ p q = (p .0 ∙ sym (q .0), p .1 ∙ sym (q .1))
+write-determined κs a z z′ e e′ p q = (p .0 ∙ sym (q .0), p .1 .0 ∙ sym (q .1 .0))
 
 read-asks-nothing : AsksNothing read-kinds.ps read.Pre
 read-asks-nothing κs a = tt
 
 read-determined : Determined read-kinds.ps read-kinds.r read.Post (λ κs e. e .1 .1 .1 .1 .0 .now)
-read-determined κs a z z′ e e′ p q = (p .0 ∙ sym (q .0), p .1 ∙ sym (q .1))
+read-determined κs a z z′ e e′ p q = (p .0 ∙ sym (q .0), p .1 .0 ∙ sym (q .1 .0))
 
 frame-asks-nothing : AsksNothing frame-kinds.ps frame.Pre
 frame-asks-nothing κs a = tt
@@ -57,4 +57,4 @@ check-asks-nothing : AsksNothing check-kinds.ps check.Pre
 check-asks-nothing κs a = tt
 
 check-determined : AnswerDetermined check-kinds.ps check-kinds.r check.Post
-check-determined κs a z z′ e e′ p q = p ∙ sym q
+check-determined κs a z z′ e e′ p q = p .0 ∙ sym (q .0)

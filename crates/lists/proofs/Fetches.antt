@@ -22,8 +22,8 @@ use Rattle.order.proofs.Steps.{length-values}
 use Rattle.order.proofs.Going.{after-end}
 use Rattle.order.proofs.Blockwise.{values-are}
 use Rattle.bodies.specs.Body.{blockCount}
-use Rattle.bodies.specs.Reading.{widthAt, sizeAt, entryAt, entriesAt, valuesAt, frameRefusal, entriesRefusal, shapeRefusal, blockRefusal, refusalFrom, listOf}
-use Rattle.bodies.proofs.Tests.{Framed, framed}
+use Rattle.bodies.specs.Reading.{sizeAt, entryAt, entriesAt, valuesAt, frameRefusal, blockRefusal, refusalFrom, listOf}
+use Rattle.bodies.proofs.Tests.{Framed, framed, frames, block-passed}
 use Rattle.bodies.proofs.Onward.{blocks-next, list-none, list-next}
 use Rattle.lists.proofs.Standing.{byte-there, byte-narrow, end-within, rest-there}
 use Rattle.lists.specs.kernel.Steps.{framesFrom}
@@ -62,13 +62,11 @@ module _ (L : ℕ) (lanes : 0 < L) (count : ℕ) (bs : List ℕ) (pos : 0 < coun
 
 -- a body that is not refused has them
 pub frames-good : (b L : ℕ) (m : Mode) (count : ℕ) (bs : List ℕ) → accepted (refusalFrom L m count bs b) ≡ true → accepted (framesFrom L bs b) ≡ true
-unfolding refusalFrom framesFrom blockRefusal shapeRefusal
+unfolding refusalFrom framesFrom
 frames-good zero L m count bs h = refl
 frames-good (suc b) L m count bs h =
     let o = both (blockRefusal L m (min (blockSize L) count) bs) _ h in
-    let s = both (shapeRefusal L (min (blockSize L) count) bs) _ (o .0) in
-    let f = both (frameRefusal L bs) (entriesRefusal L (min (blockSize L) count) (widthAt bs) (entryAt L bs)) (s .0) in
-    rw (f .0) (frames-good b L _ (count - blockSize L) (drop (sizeAt L bs) bs) (o .1))
+    rw (frames L bs (block-passed L m _ bs (o .0) .frame)) (frames-good b L _ (count - blockSize L) (drop (sizeAt L bs) bs) (o .1))
 
 -- what stands in `out` after the first `done` values, up to `place` in the body, and what is to come
 pub record Fetching (L : ℕ) (m₀ : Mode) (count : ℕ) (body before : List ℕ) (m : Mode) (place done : ℕ) (out : List ℕ) : Type 0 where

@@ -1,5 +1,6 @@
 pub mod Standing
 pub mod BlockCalls
+pub mod BlockParts
 pub mod Takes
 pub mod Fetches
 pub mod Stores

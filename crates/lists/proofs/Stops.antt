@@ -2,7 +2,7 @@
 use mathlib.Core.Path.{_≡_, _∙_, ap}
 use mathlib.Core.Bool.{true}
 use mathlib.Core.List.{List}
-use Prim.Native.Nat.{ℕ, _-_, _≤_, _<_, _^_}
+use Prim.Native.Nat.{ℕ, _-_, _≤_}
 use native.Mathlib.Nat.{le-refl}
 use native.Mathlib.Omega.{arith}
 use borrow.Author.Tests.{le-ltb}
@@ -11,7 +11,6 @@ use Rattle.layout.specs.Layout.{Below, isLanes}
 use Rattle.layout.proofs.Below.{below-take}
 use Rattle.layout.proofs.LaneCounts.{lanes-of}
 use Rattle.modes.specs.declared.Mode.{Mode}
-use Rattle.modes.specs.Entries.{firstOf}
 use Rattle.answers.specs.Refusals.{accepted}
 use Rattle.order.specs.Order.{starting, afterAll}
 use Rattle.bodies.specs.List.{most}
@@ -28,7 +27,7 @@ use Rattle.lists.specs.Stops.{Stops, WhereItStops}
 use Rattle.lists.proofs.Accepts.{read-exactly}
 use Rattle.lists.proofs.Demand.{list-read}
 
-module _ (L : ℕ) (m : Mode) (lanes : isLanes L ≡ true) (first : firstOf m < 2 ^ 32) (count : ℕ) (bs : List ℕ) (few : count ≤ most) (bytes : Below 256 bs) where
+module _ (L : ℕ) (m : Mode) (lanes : isLanes L ≡ true) (count : ℕ) (bs : List ℕ) (few : count ≤ most) (bytes : Below 256 bs) where
   abbrev s : Stop
   s = bodyStop L (starting m) count bs
 
@@ -50,10 +49,10 @@ module _ (L : ℕ) (m : Mode) (lanes : isLanes L ≡ true) (first : firstOf m < 
         inside = kept-inside L pos (starting m) count bs bytes;
         whole = λ h. kept-whole L pos (starting m) count bs bytes (rw refusal at h);
         list = listOf L m size front;
-        kept = list-read L m lanes first size size front (below-take (s .place) bs bytes) read;
+        kept = list-read L m lanes size size front (below-take (s .place) bs bytes) read;
         next = kept-mode L pos (starting m) count bs bytes ∙ ap (afterAll (starting m)) (starting-values m (entriesFrom L size front (blockCount L size)));
         greatest = λ j p room enough h. kept-most L pos (starting m) count bs bytes j p enough (read-exactly L m _ (take p bs) room .0 h .body);
       }
 
-pub where-it-stops : WhereItStops
-where-it-stops L m lanes first count bs few bytes = rw (check-is L m lanes first count bs few bytes) (stops L m lanes first count bs few bytes)
+pub where-it-stops : (L : ℕ) (m : Mode) (count : ℕ) (bs : List ℕ) {r : Stop} → Below 256 bs → r ≡ checkStop L m count bs → WhereItStops L m count bs r
+where-it-stops L m count bs bytes p lanes few = rw (p, check-is L m lanes count bs few bytes) (stops L m lanes count bs few bytes)

@@ -22,11 +22,13 @@ use Rattle.answers.proofs.Refusals.{first-stops, first-passes}
 use Rattle.answers.proofs.Parts.{part-is, part-at, part-length}
 use Rattle.order.specs.declared.Course.{Course}
 use Rattle.order.specs.Order.{afterAll, ordered, valuesOf, course}
-use Rattle.bodies.specs.Reading.{widthAt, sizeAt, entryAt, entriesAt, valuesAt, frameRefusal, entriesRefusal, shapeRefusal, blockRefusal, endRefusal}
+use Rattle.bodies.specs.Reading.{widthAt, sizeAt, entryAt, entriesAt, valuesAt, frameRefusal, blockRefusal, endRefusal}
 use Rattle.bodies.specs.declared.Stop.{Stop}
 use Rattle.bodies.specs.Stops.{nothing, blockStop, past, bodyStop}
 use Rattle.bodies.proofs.Tests.{Framed, framed, block-passed}
 use Rattle.bodies.proofs.Stops.{taking, block-taken, block-refused, block-refusal, stop-none, stop-here, stop-next, past-past}
+use Rattle.lists.specs.kernel.Steps.{entriesRefusal, shapeRefusal}
+use Rattle.lists.proofs.BlockParts.{block-parts}
 
 -- the filling, as the part behind the list's own entries
 pub fill-part : (L k : ℕ) (es : List ℕ) → length es ≡ blockSize L
@@ -55,11 +57,11 @@ module _ (L : ℕ) (m : Mode) (left : ℕ) (bs : List ℕ) where
   refused is e h = is ∙ ap (λ (k : Refusal). nothing k left m) e ∙ sym (block-refused L m left bs (ap accepted (sym e) ∙ h))
 
   pub no-frame : {r : Refusal} {s : Stop} → s ≡ nothing r left m → r ≡ frameRefusal L bs → accepted r ≡ false → s ≡ blockStop L m left bs
-  unfolding blockRefusal shapeRefusal
+  unfolding shapeRefusal
   no-frame is e h =
       let f : accepted (frameRefusal L bs) ≡ false = ap accepted (sym e) ∙ h in
       let s : shapeRefusal L (min (blockSize L) left) bs ≡ frameRefusal L bs = first-stops (frameRefusal L bs) _ f in
-      refused is (e ∙ sym (first-stops (shapeRefusal L (min (blockSize L) left) bs) _ (ap accepted s ∙ f) ∙ s)) h
+      refused is (e ∙ sym (block-parts L m (min (blockSize L) left) bs ∙ first-stops (shapeRefusal L (min (blockSize L) left) bs) _ (ap accepted s ∙ f) ∙ s)) h
 
   module _ {k : ℕ} (own : k ≡ min (blockSize L) left) (framed-there : accepted (frameRefusal L bs) ≡ true) (es : List ℕ) (is : take (blockSize L) es ≡ table (entryAt L bs) (blockSize L)) (w : ℕ) (width : w ≡ widthAt bs) where
     small : k ≤ blockSize L
@@ -70,8 +72,7 @@ module _ (L : ℕ) (m : Mode) (left : ℕ) (bs : List ℕ) where
     shape-is e = e ∙ same-refusal L k bs es small is (framed L bs framed-there) w ∙ rw width (sym (first-passes (frameRefusal L bs) _ framed-there))
 
     pub bad-entries : {r : Refusal} {s : Stop} → s ≡ nothing r left m → r ≡ entriesRefusal L k w (at (take (blockSize L) es)) → accepted r ≡ false → s ≡ blockStop L m left bs
-    unfolding blockRefusal
-    bad-entries told e h = refused told (rw (← own) (shape-is e ∙ sym (first-stops (shapeRefusal L k bs) _ (ap accepted (sym (shape-is e)) ∙ h)))) h
+    bad-entries told e h = refused told (rw (← own) (shape-is e ∙ sym (block-parts L m k bs ∙ first-stops (shapeRefusal L k bs) _ (ap accepted (sym (shape-is e)) ∙ h)))) h
 
     module _ {r : Refusal} (e : r ≡ entriesRefusal L k w (at (take (blockSize L) es))) (good : accepted r ≡ true) {c : Course} (walked : c ≡ course m (valuesOf m (take k es))) where
       there : c ≡ course m (valuesAt L m k bs)
@@ -84,17 +85,15 @@ module _ (L : ℕ) (m : Mode) (left : ℕ) (bs : List ℕ) where
       orderly h = sym (ap (λ (t : Course). t .orderly) there) ∙ h
 
       pub bad-order : {s : Stop} → s ≡ nothing OutOfOrder left m → c .orderly ≡ false → s ≡ blockStop L m left bs
-      unfolding blockRefusal
-      bad-order told h = refused told (rw (← own, shape-good, orderly h)) refl
+      bad-order told h = refused told (rw (← own, block-parts L m k bs, shape-good, orderly h)) refl
 
       pub good-block : (size : ℕ) → size ≡ 1 + payloadSize L w → c .orderly ≡ true
           → _≡_ {A = Stop} (record { refusal = Accepted; blocks = 1; place = size; left = left - k; mode = c .mode }) (blockStop L m left bs)
-      unfolding blockRefusal
       good-block size sized h =
           let o : ordered m (valuesAt L m k bs) ≡ true = orderly h in
           let next : c .mode ≡ afterAll m (valuesAt L m k bs) = ap (λ (t : Course). t .mode) there ∙ rw o in
           let less : left - k ≡ left - blockSize L = omega arith in
-          rw (next, less, sized, width, own) (sym (block-taken L m left bs (rw (← own, shape-good, o))))
+          rw (next, less, sized, width, own) (sym (block-taken L m left bs (rw (← own, block-parts L m k bs, shape-good, o))))
 
 -- what is left to take is what there was to take, but for what was taken
 pub record Taking (L : ℕ) (m₀ : Mode) (count : ℕ) (body : List ℕ) (m : Mode) (blocks place left : ℕ) : Type 0 where

@@ -8,31 +8,38 @@ use Rattle.modes.specs.declared.Mode.{Mode}
 use Rattle.answers.specs.declared.Answer.{Answer}
 use Rattle.answers.specs.declared.Refusal.{Refusal}
 use Rattle.answers.specs.declared.Refusal.the-variants.{Accepted, BadLanes, NoRoom, TooMany}
-use Rattle.answers.specs.Refusals.{refuse, orElse}
+use Rattle.answers.specs.Refusals.{refuse}
 use Rattle.layout.specs.Layout.{isLanes}
 use Rattle.answers.specs.Answers.{answer, written}
 use Rattle.order.specs.Order.{starting}
 use Rattle.bodies.specs.List.{most}
 use Rattle.bodies.specs.Body.{bodyOf}
-use Rattle.bodies.specs.Reading.{valuesRefusal, bodyRefusal, listOf}
+use Rattle.bodies.specs.Reading.{refuseValues, bodyRefusal, listOf}
 
 -- what values are refused for, whatever the room: the 1, 7, 8 of writing
 unfoldable pub measureRefusal : ℕ → Mode → List ℕ → Refusal
 measureRefusal L m vs =
     refuse (not (isLanes L)) BadLanes
     (refuse (ltb most (length vs)) TooMany
-    (valuesRefusal (starting m) vs))
+    (refuseValues (starting m) vs
+    Accepted))
 
 -- the length that the body has
 abbrev pub measureAnswer : ℕ → Mode → List ℕ → Answer
 measureAnswer L m vs = answer (measureRefusal L m vs) (length (bodyOf L m vs))
 
--- "Write a list: 1, 7, 8, 4", for the values vs and an output of `room` bytes
+-- "1, 7, 8, 4": writing the values vs, as `size` bytes, into an output of `room` bytes. Of a list and of a file.
+abbrev pub writingRefusal : ℕ → Mode → List ℕ → ℕ → ℕ → Refusal
+writingRefusal L m vs size room =
+    refuse (not (isLanes L)) BadLanes
+    (refuse (ltb most (length vs)) TooMany
+    (refuseValues (starting m) vs
+    (refuse (ltb room size) NoRoom
+    Accepted)))
+
+-- "Write a list: 1, 7, 8, 4"
 abbrev pub writeRefusal : ℕ → Mode → List ℕ → ℕ → Refusal
-writeRefusal L m vs room =
-    orElse (measureRefusal L m vs)
-    (refuse (ltb room (length (bodyOf L m vs))) NoRoom
-    Accepted)
+writeRefusal L m vs room = writingRefusal L m vs (length (bodyOf L m vs)) room
 
 -- the body's length, and the body at the front of the output
 abbrev pub writeAnswer : ℕ → Mode → List ℕ → ℕ → Answer

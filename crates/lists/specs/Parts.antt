@@ -23,7 +23,7 @@ use Rattle.bodies.specs.Stops.{orStop, blockStop, bodyStop}
 abbrev pub frameAnswer : ℕ → List ℕ → Answer
 frameAnswer L bs = answer (refuse (not (isLanes L)) BadLanes (frameRefusal L bs)) (sizeAt L bs)
 
--- a block: 1; 5, 2, 5, 10, 9, 8. At 1 nothing is left.
+-- a block: 1; 5, 2, 5, 10, 9, 8. At 1 no value is looked at, and `left` is 0.
 abbrev pub checkBlockStop : ℕ → Mode → ℕ → List ℕ → Stop
 checkBlockStop L m count bs = orStop (refuse (not (isLanes L)) BadLanes Accepted) 0 m (blockStop L m count bs)
 
@@ -41,7 +41,8 @@ readBlockAnswer L m count bs room = answer (readBlockRefusal L m count bs room) 
 abbrev pub readBlockOutput : ℕ → Mode → ℕ → List ℕ → List ℕ → List ℕ
 readBlockOutput L m count bs before = written (readBlockRefusal L m count bs (length before)) (valuesAt L m (min (blockSize L) count) bs) before
 
--- a body of count values, m the list's mode: 1, 7; then block by block, at the end 11. At 1 and 7 nothing is left.
+-- a body of count values, m the list's mode: 1, 7; then block by block, at the end 11. At 1 and 7 no value is looked at, and
+-- `left` is 0.
 abbrev pub checkStop : ℕ → Mode → ℕ → List ℕ → Stop
 checkStop L m count bs =
     orStop (refuse (not (isLanes L)) BadLanes (refuse (ltb most count) TooMany Accepted)) 0 m

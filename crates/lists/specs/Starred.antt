@@ -1,5 +1,6 @@
 -- The starred cases of "Numbers at the edges".
-use mathlib.Core.List.{List, [], _∷_, _++_}
+use mathlib.Core.Path.{_≡_}
+use mathlib.Core.List.{List, [], _∷_, _++_, map}
 use Prim.Native.Nat.{ℕ}
 use lib.ListN.{set, replicate}
 use Rattle.layout.specs.Layout.{at, table, packed}
@@ -52,5 +53,10 @@ starred =
     ∷ record { given = numberOf (readRefusal 1 Plain 1 (0x02 ∷ 0x01 ∷ replicate 7 0x00) 1) ∷ []; said = 9 ∷ [] }
     -- 11. "Strict, none, list 4,294,967,295, 0: 8. As neighbours in a block they pack."
     ∷ record { given = numberOf (writeRefusal 1 (Strict None) (4294967295 ∷ 0 ∷ []) 1000) ∷ []; said = 8 ∷ [] }
+    ∷ record { given = numberOf (packRefusal 1 (Strict None) (4294967295 ∷ table (λ k. k) 31) 128 32) ∷ []; said = 0 ∷ [] }
     ∷ record { given = numberOf (packRefusal 1 (Strict (Number 4294967294)) (4294967295 ∷ table (λ k. k) 31) 0 0) ∷ []; said = 0 ∷ [] }
     ∷ []
+
+-- "one table of the definitions with a single proved claim" (proofs/Starred, starred-hold)
+abbrev pub StarredHold : Type 0
+StarredHold = map (λ c. c .given) starred ≡ map (λ c. c .said) starred

@@ -1,7 +1,7 @@
 // The values of a body whose blocks are all there, into the caller's output.
 use crate::sizes::block_length;
-use crate::sizes::widen;
 use blocks::decompress;
+use lanes::wide;
 use modes::Mode;
 use order::after;
 ghost use mathlib.Core.Path.{_≡_};
@@ -33,7 +33,7 @@ fn fetch_block(lanes: usize, mode: Mode, bytes: &[u8], values: &mut [u32]) -> Mo
     ensures { λ r. ⌜ now (values .exit) ≡ over (valuesAt lanes mode (blockSize lanes) (now (bytes .entry))) (now (values .entry)) ⌝ }
     ensures { λ r. ⌜ r ≡ afterAll mode (valuesAt lanes mode (blockSize lanes) (now (bytes .entry))) ⌝ }
 {
-    decompress(lanes, mode, &bytes[1..], &mut values[..], widen(bytes[0]));
+    decompress(lanes, mode, &bytes[1..], &mut values[..], wide(bytes[0]));
     after(mode, values[32 * lanes - 1])
 }
 
@@ -43,7 +43,7 @@ pub(crate) fn fetch_last(lanes: usize, mode: Mode, count: usize, bytes: &[u8], v
     ensures { λ r. ⌜ now (values .exit) ≡ over (valuesAt lanes mode count (now (bytes .entry))) (now (values .entry)) ⌝ }
 {
     let mut block = [0u32; 256];
-    decompress(lanes, mode, &bytes[1..], &mut block, widen(bytes[0]));
+    decompress(lanes, mode, &bytes[1..], &mut block, wide(bytes[0]));
     copy(&block[..count], values);
 }
 
@@ -57,7 +57,7 @@ pub(crate) fn fetch_body(lanes: usize, mode: Mode, count: usize, body: &[u8], va
     let mut done: usize = 0;
     while 32 * lanes <= count - done {
         running = fetch_block(lanes, running, &body[place..], &mut values[done..]);
-        place += block_length(lanes, widen(body[place]));
+        place += block_length(lanes, wide(body[place]));
         done += 32 * lanes;
     }
     if done < count {

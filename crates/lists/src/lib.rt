@@ -6,12 +6,12 @@ use bodies::Stop;
 use fetch::fetch_body;
 use fetch::fetch_last;
 use lanes::is_lanes;
+use lanes::wide;
 use modes::Mode;
 use order::in_order;
 use order::starting;
 use sizes::block_length;
 use sizes::lesser;
-use sizes::widen;
 use store::body_length;
 use store::has_room;
 use store::store_body;
@@ -22,7 +22,9 @@ use take::take_body;
 ghost use mathlib.Core.Path.{_≡_};
 ghost use lib.ListN.{length};
 ghost use Rattle.lists.specs.Calls.{measureRefusal, measureAnswer, writeAnswer, writeOutput, readRefusal, readAnswer, readOutput};
+ghost use Rattle.lists.specs.Demand.{DemandReads, DemandWrites};
 ghost use Rattle.lists.specs.Parts.{frameAnswer, checkBlockStop, readBlockRefusal, readBlockAnswer, readBlockOutput, checkStop};
+ghost use Rattle.lists.specs.Stops.{WhereItStops};
 
 mod fetch;
 mod sizes;
@@ -62,6 +64,7 @@ pub fn measure(lanes: usize, mode: Mode, values: &[u32]) -> Answer
 pub fn write(lanes: usize, mode: Mode, values: &[u32], body: &mut [u8]) -> Answer
     ensures { λ r. ⌜ r ≡ writeAnswer lanes mode (now (values .entry)) (length (now (body .entry))) ⌝ }
     ensures { λ r. ⌜ now (body .exit) ≡ writeOutput lanes mode (now (values .entry)) (now (body .entry)) ⌝ }
+    ensures { λ r. ⌜ DemandWrites lanes mode (now (values .entry)) (now (body .entry)) r (now (body .exit)) ⌝ }
 {
     let refusal = measure_refusal(lanes, mode, values);
     if !refusal.is_accepted() {
@@ -93,6 +96,7 @@ fn read_refusal(lanes: usize, mode: Mode, count: usize, body: &[u8], room: usize
 pub fn read(lanes: usize, mode: Mode, count: usize, body: &[u8], values: &mut [u32]) -> Answer
     ensures { λ r. ⌜ r ≡ readAnswer lanes mode count (now (body .entry)) (length (now (values .entry))) ⌝ }
     ensures { λ r. ⌜ now (values .exit) ≡ readOutput lanes mode count (now (body .entry)) (now (values .entry)) ⌝ }
+    ensures { λ r. ⌜ DemandReads lanes mode count (now (body .entry)) (now (values .entry)) r (now (values .exit)) ⌝ }
 {
     let refusal = read_refusal(lanes, mode, count, body, values.len());
     if !refusal.is_accepted() {
@@ -105,6 +109,7 @@ pub fn read(lanes: usize, mode: Mode, count: usize, body: &[u8], values: &mut [u
 // Check a body as reading does, and say where that stops: at 1 and 7 before any block, with nothing left and the mode as given.
 pub fn check(lanes: usize, mode: Mode, count: usize, body: &[u8]) -> Stop
     ensures { λ r. ⌜ r ≡ checkStop lanes mode count (now (body .entry)) ⌝ }
+    ensures { λ r. ⌜ WhereItStops lanes mode count (now (body .entry)) r ⌝ }
 {
     if !is_lanes(lanes) {
         return nothing(Refusal::BadLanes, 0, mode);
@@ -126,7 +131,7 @@ pub fn frame(lanes: usize, bytes: &[u8]) -> Answer
     if !refusal.is_accepted() {
         return Answer::refused(refusal);
     }
-    Answer::accepted(block_length(lanes, widen(bytes[0])))
+    Answer::accepted(block_length(lanes, wide(bytes[0])))
 }
 
 // Check the block that the bytes begin with, where `count` values are left and `mode` is the mode past those before it: of a list's first

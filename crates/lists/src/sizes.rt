@@ -11,13 +11,6 @@ pub(crate) fn lesser(a: usize, b: usize) -> usize
     if a < b { a } else { b }
 }
 
-pub(crate) fn widen(x: u8) -> u32
-    ensures { λ r. ⌜ r ≡ x ⌝ }
-    ensures { λ r. ⌜ r < 256 ⌝ }
-{
-    x as u32
-}
-
 // The width byte and the payload.
 pub(crate) fn block_length(lanes: usize, width: u32) -> usize
     requires { ⌜ (isLanes lanes ≡ true) × (width ≤ 32) ⌝ }

@@ -1,11 +1,11 @@
 // The tests of reading, block by block, and where they stop. Nothing is written.
 use crate::sizes::block_length;
 use crate::sizes::lesser;
-use crate::sizes::widen;
 use answers::Refusal;
 use blocks::decompress;
 use blocks::num_bits;
 use bodies::Stop;
+use lanes::wide;
 use modes::Mode;
 use order::walk;
 ghost use mathlib.Core.Path.{_≡_};
@@ -16,8 +16,9 @@ ghost use Rattle.layout.specs.Layout.{at, blockSize, table, isLanes};
 ghost use Rattle.layout.specs.Width.{fits};
 ghost use Rattle.answers.specs.Refusals.{accepted};
 ghost use Rattle.bodies.specs.List.{most};
-ghost use Rattle.bodies.specs.Reading.{entryAt, frameRefusal, entriesRefusal, endRefusal};
+ghost use Rattle.bodies.specs.Reading.{entryAt, frameRefusal, endRefusal};
 ghost use Rattle.bodies.specs.Stops.{nothing, blockStop, bodyStop};
+ghost use Rattle.lists.specs.kernel.Steps.{entriesRefusal};
 
 // 5, 2, 5: whether the bytes begin with a whole block.
 pub(crate) fn frame_refusal(lanes: usize, bytes: &[u8]) -> Refusal
@@ -27,7 +28,7 @@ pub(crate) fn frame_refusal(lanes: usize, bytes: &[u8]) -> Refusal
     if bytes.len() < 1 {
         return Refusal::CutShort;
     }
-    let width = widen(bytes[0]);
+    let width = wide(bytes[0]);
     if 32 < width {
         return Refusal::BadWidth;
     }
@@ -44,7 +45,7 @@ fn block_entries(lanes: usize, bytes: &[u8]) -> [u32; 256]
     ensures { λ r. ⌜ take (blockSize lanes) r ≡ table (entryAt lanes (now (bytes .entry))) (blockSize lanes) ⌝ }
 {
     let mut block = [0u32; 256];
-    decompress(lanes, Mode::Plain, &bytes[1..], &mut block, widen(bytes[0]));
+    decompress(lanes, Mode::Plain, &bytes[1..], &mut block, wide(bytes[0]));
     block
 }
 
@@ -99,7 +100,7 @@ pub(crate) fn take_block(lanes: usize, mode: Mode, left: usize, bytes: &[u8]) ->
         return nothing(frame, left, mode);
     }
     let count = lesser(32 * lanes, left);
-    let width = widen(bytes[0]);
+    let width = wide(bytes[0]);
     let block = block_entries(lanes, bytes);
     let shape = entries_refusal(lanes, count, width, &block[..32 * lanes]);
     if !shape.is_accepted() {

@@ -13,8 +13,8 @@ use tables::bytes_sum;
 use tables::lesser;
 use tables::line;
 use tables::line::no_numbers;
+use tables::words::amount;
 use tables::words::mode;
-use tables::words::number;
 use tables::words::second;
 ghost use mathlib.Core.Path.{_≡_};
 ghost use lib.ListN.{length};
@@ -59,7 +59,7 @@ pub(crate) fn list_case(case: &[u8]) {
 fn packed(case: &[u8]) -> [u8; 16520]
     ensures { λ r. ⌜ 16520 ≡ length r ⌝ }
 {
-    let all = list_of(case, number(b'p', case) as usize);
+    let all = list_of(case, amount(b'p', case) as usize);
     let entries = first_values(&all, second(b'p', case) as usize);
     let body = body_of(lanes(case), Mode::Plain, entries);
     body.bytes
@@ -67,7 +67,7 @@ fn packed(case: &[u8]) -> [u8; 16520]
 
 // byte=3:9, or then=3:9: at place 3, where there is such a place, is the byte 9.
 fn put(letter: u8, case: &[u8], bytes: &mut [u8]) {
-    let place = number(letter, case) as usize;
+    let place = amount(letter, case) as usize;
     if place < bytes.len() {
         bytes[place] = (second(letter, case) % 256) as u8;
     }
@@ -91,7 +91,7 @@ fn show_bytes(bytes: &[u8]) {
 
 // as=4: the lanes with which a body is read.
 fn lanes_read(case: &[u8]) -> usize {
-    number(b'a', case) as usize
+    amount(b'a', case) as usize
 }
 
 // room=31: it is read into so much room.
@@ -101,7 +101,7 @@ fn read_bytes(case: &[u8], bytes: &[u8]) {
         case,
         lanes_read(case),
         bytes,
-        number(b'r', case) as usize,
+        amount(b'r', case) as usize,
     );
 }
 
@@ -117,7 +117,7 @@ fn check_body(case: &[u8], body: &[u8]) {
 
 // start=7: the block that starts at that place is framed, checked and read by itself.
 fn part_of_body(case: &[u8], body: &[u8]) {
-    let start = lesser(number(b's', case) as usize, body.len());
+    let start = lesser(amount(b's', case) as usize, body.len());
     let bytes = &body[start..];
     show_bytes(bytes);
     line::answer(b" frame=", lists::frame(lanes_read(case), bytes));
@@ -128,7 +128,7 @@ fn part_of_body(case: &[u8], body: &[u8]) {
 // end=12: the first 12 bytes of such a body are read, or checked, or a block of them.
 pub(crate) fn body_case(kind: u8, case: &[u8]) {
     let bytes = changed(case);
-    let body = first_bytes(&bytes, number(b'e', case) as usize);
+    let body = first_bytes(&bytes, amount(b'e', case) as usize);
     match kind {
         b'b' => read_body(case, body),
         b's' => check_body(case, body),

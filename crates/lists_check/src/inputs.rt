@@ -2,9 +2,9 @@
 use std::num::wrapping_add_u32;
 use tables::lesser;
 use tables::noise_after;
+use tables::words::amount;
 use tables::words::letter_at;
 use tables::words::narrow;
-use tables::words::number;
 use tables::words::second;
 use tables::words::value;
 ghost use mathlib.Core.Path.{_≡_};
@@ -13,12 +13,12 @@ ghost use lib.ListN.{length};
 
 // lanes=4: the lanes with which a list is written.
 pub(crate) fn lanes(case: &[u8]) -> usize {
-    number(b'l', case) as usize
+    amount(b'l', case) as usize
 }
 
 // count=33: how many values are written, or read.
 pub(crate) fn count(case: &[u8]) -> usize {
-    number(b'c', case) as usize
+    amount(b'c', case) as usize
 }
 
 // How many values a block has.
@@ -68,7 +68,7 @@ impl Rule {
 fn rule_of(case: &[u8]) -> Rule {
     Rule {
         letter: letter_at(value(b'v', case), 0),
-        start: narrow(number(b'v', case)),
+        start: narrow(amount(b'v', case)),
         step: narrow(second(b'v', case)),
     }
 }
@@ -90,7 +90,7 @@ fn by_rule(lanes: usize, count: usize, rule: Rule) -> [u32; 4104]
 
 // odd=3:9, or next=3:9: at place 3, where there is such a place, is the value 9.
 fn put(letter: u8, case: &[u8], values: &mut [u32]) {
-    let place = number(letter, case) as usize;
+    let place = amount(letter, case) as usize;
     if place < values.len() {
         values[place] = narrow(second(letter, case));
     }

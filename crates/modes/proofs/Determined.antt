@@ -1,8 +1,9 @@
 -- For each public function of the crate: it asks nothing of its caller; two answers that its contract allows for one input are equal, and so
 -- is what it leaves in the memory that it was lent to write.
 use mathlib.Core.Path.{sym, _∙_}
-use Rattle.answers.proofs.Contracts.{AsksNothing, AnswerDetermined}
-use Rattle.lanes.proofs.Rows.{row-once, RowDetermined}
+use Rattle.answers.specs.Contracts.{AsksNothing, AnswerDetermined}
+use Rattle.lanes.specs.Contracts.{RowDetermined}
+use Rattle.lanes.proofs.Rows.{row-once}
 use Rattle.modes.proofs.initial_value.Reads as initial-value
 use Rattle.modes.proofs.initial_value.Kinds as initial-value-kinds
 use Rattle.modes.proofs.transform.Reads as transform

@@ -4,6 +4,7 @@ use Prim.Native.Nat.{ℕ, zero, suc, _-_, _^_, _≤_, _<_}
 use native.Mathlib.Omega.{arith}
 use Rattle.lanes.specs.Sums.{before}
 use Rattle.modes.specs.Entries.{firstOf, entryOf, valueOf, entries, valuesFrom, values}
+use Rattle.modes.specs.Claims.{ValuesBack, EntriesBack}
 use Rattle.modes.specs.declared.Mode.{Mode}
 use Rattle.modes.specs.declared.Mode.the-variants.{Plain, Sorted, Strict}
 
@@ -40,14 +41,14 @@ values-small m p e zero h = value-small m p (e 0) h
 values-small m p e (suc k) h = value-small m (valuesFrom m p e k) (e (suc k)) h
 
 -- the values of a block's entries are the block
-pub values-entries : (m : Mode) (v : ℕ → ℕ) → firstOf m < 2 ^ 32 → (k : ℕ) → ((i : ℕ) → i ≤ k → v i < 2 ^ 32) → values m (entries m v) k ≡ v k
+pub values-entries : ValuesBack
 values-entries m v first zero h = value-of-entry m (firstOf m) (v 0) first (h 0 (omega arith))
 values-entries m v first (suc k) h =
     rw (values-entries m v first k (λ i le. h i (omega arith)))
     (value-of-entry m (v k) (v (suc k)) (h k (omega arith)) (h (suc k) (omega arith)))
 
 -- the entries of the values of entries are the entries
-pub entries-values : (m : Mode) (e : ℕ → ℕ) → firstOf m < 2 ^ 32 → (k : ℕ) → ((i : ℕ) → i ≤ k → e i < 2 ^ 32) → entries m (values m e) k ≡ e k
+pub entries-values : EntriesBack
 entries-values m e first zero h = entry-of-value m (firstOf m) (e 0) first (h 0 (omega arith))
 entries-values m e first (suc k) h =
     entry-of-value m (values m e k) (e (suc k)) (values-small m (firstOf m) e k (h k (omega arith))) (h (suc k) (omega arith))

@@ -1,5 +1,5 @@
 // Bytes as numbers.
-use tables::wide;
+use lanes::wide;
 
 // The number of four bytes from `place` on, lowest byte first, and 0 where there are fewer.
 pub(crate) fn number_at(bytes: &[u8], place: usize) -> u32 {

@@ -11,6 +11,7 @@ use Rattle.modes.specs.declared.Mode.{Mode}
 use Rattle.modes.specs.declared.Mode.the-variants.{Plain, Sorted, Strict}
 use Rattle.modes.specs.declared.Initial.the-variants.{Number}
 use Rattle.order.specs.Order.{after, afterAll, nextValue, entriesOf, valuesOf}
+use Rattle.order.specs.Claims.{ListEntries, ListValues}
 use Rattle.order.proofs.Steps.{after-last, length-entries, values-append, values-one}
 
 entry-at : (m : Mode) (vs : List ℕ) (k : ℕ) → k < length vs → at (entriesOf m vs) k ≡ entries m (at vs) k
@@ -24,7 +25,7 @@ entry-at (Strict i) (v ∷ vs) (suc zero) h = entry-at (Strict (Number v)) vs ze
 entry-at (Strict i) (v ∷ vs) (suc (suc k)) h = entry-at (Strict (Number v)) vs (suc k) (omega arith)
 
 -- the entries of a list
-pub entries-are : (m : Mode) (vs : List ℕ) → entriesOf m vs ≡ table (entries m (at vs)) (length vs)
+pub entries-are : ListEntries
 entries-are m vs = sym (table-of (entries m (at vs)) (length vs) (entriesOf m vs) (length-entries m vs) (λ i h. entry-at m vs i h))
 
 value-past : (m : Mode) (v e : ℕ) → nextValue (after m v) e ≡ valueOf m v e
@@ -38,7 +39,7 @@ next-value m e zero = refl
 next-value m e (suc j) = rw (after-last m (table (values m e) j) (values m e j)) (value-past m (values m e j) (e (suc j)))
 
 -- the values of a list of entries
-pub values-are : (m : Mode) (e : ℕ → ℕ) (k : ℕ) → valuesOf m (table e k) ≡ table (values m e) k
+pub values-are : ListValues
 unfolding table valuesOf
 values-are m e zero = refl
 values-are m e (suc k) = values-append m (table e k) (e k ∷ []) ∙ rw (values-are m e k, values-one, next-value m e k)

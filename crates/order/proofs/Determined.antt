@@ -1,7 +1,7 @@
 -- For each public function of the crate: it asks nothing of its caller; two answers that its contract allows for one input are equal, and so
 -- is what it leaves in the memory that it was lent to write.
 use mathlib.Core.Path.{sym, _∙_}
-use Rattle.answers.proofs.Contracts.{AsksNothing, AnswerDetermined}
+use Rattle.answers.specs.Contracts.{AsksNothing, AnswerDetermined}
 use Rattle.order.proofs.starting_initial.Reads as starting-initial
 use Rattle.order.proofs.starting_initial.Kinds as starting-initial-kinds
 use Rattle.order.proofs.starting.Reads as starting

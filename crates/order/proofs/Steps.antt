@@ -4,9 +4,12 @@ use mathlib.Core.Bool.{Bool, true, false, _&&_}
 use mathlib.Core.List.{List, [], _∷_, _++_}
 use Prim.Native.Nat.{ℕ, suc, _+_, _-_, _^_, _<_}
 use native.Mathlib.Omega.{arith}
+use borrow.Author.Tests.{leb-true, ltb-true}
 use lib.ListN.{length}
 use Rattle.layout.specs.Layout.{Below}
 use Rattle.layout.proofs.Below.{below-none, below-tail, below-cons}
+use Rattle.layout.proofs.Widths.{and-both}
+use Rattle.modes.specs.declared.Initial.the-variants.{None, Number}
 use Rattle.modes.specs.Entries.{firstOf}
 use Rattle.modes.specs.declared.Mode.{Mode}
 use Rattle.modes.specs.declared.Mode.the-variants.{Plain, Sorted, Strict}
@@ -22,10 +25,12 @@ after-starts Plain v h = omega arith
 after-starts (Sorted f) v h = h
 after-starts (Strict i) v h = h
 
-pub all-starts : (m : Mode) (vs : List ℕ) → Starts m → Below (2 ^ 32) vs → Starts (afterAll m vs)
-unfolding afterAll
-all-starts m [] s w = s
-all-starts m (v ∷ vs) s w = all-starts (after m v) vs (after-starts m v (w 0)) (below-tail v vs w)
+-- and it is one where a value of 32 bits may come next
+admits-starts : (m : Mode) (v : ℕ) → v < 2 ^ 32 → admits m v ≡ true → Starts m
+admits-starts Plain v h a = omega arith
+admits-starts (Sorted f) v h a = omega (arith, leb-true f v a)
+admits-starts (Strict None) v h a = omega arith
+admits-starts (Strict (Number f)) v h a = omega (arith, ltb-true f v a)
 
 -- as many, and all of 32 bits
 
@@ -51,19 +56,32 @@ values-small m (e ∷ es) w = below-cons (nextValue m e) (valuesOf (after m (nex
 
 -- there and back
 
-pub values-entries : (m : Mode) (vs : List ℕ) → Starts m → Below (2 ^ 32) vs → valuesOf m (entriesOf m vs) ≡ vs
+values-back : (m : Mode) (vs : List ℕ) → Starts m → Below (2 ^ 32) vs → valuesOf m (entriesOf m vs) ≡ vs
 unfolding entriesOf valuesOf
-values-entries m [] s w = refl
-values-entries m (v ∷ vs) s w =
+values-back m [] s w = refl
+values-back m (v ∷ vs) s w =
     let e : nextValue m (nextEntry m v) ≡ v = value-of-entry m (firstOf m) v s (w 0) in
-    rw e (ap (λ (t : List ℕ). v ∷ t) (values-entries (after m v) vs (after-starts m v (w 0)) (below-tail v vs w)))
+    rw e (ap (λ (t : List ℕ). v ∷ t) (values-back (after m v) vs (after-starts m v (w 0)) (below-tail v vs w)))
 
-pub entries-values : (m : Mode) (es : List ℕ) → Starts m → Below (2 ^ 32) es → entriesOf m (valuesOf m es) ≡ es
+entries-back : (m : Mode) (es : List ℕ) → Starts m → Below (2 ^ 32) es → entriesOf m (valuesOf m es) ≡ es
 unfolding entriesOf valuesOf
-entries-values m [] s w = refl
-entries-values m (e ∷ es) s w =
+entries-back m [] s w = refl
+entries-back m (e ∷ es) s w =
     ap₂ (λ (h : ℕ) (t : List ℕ). h ∷ t) (entry-of-value m (firstOf m) e s (w 0))
-    (entries-values (after m (nextValue m e)) es (after-starts m (nextValue m e) (value-small m (firstOf m) e (w 0))) (below-tail e es w))
+    (entries-back (after m (nextValue m e)) es (after-starts m (nextValue m e) (value-small m (firstOf m) e (w 0))) (below-tail e es w))
+
+-- for values in order, whatever the first number
+
+pub values-entries : (m : Mode) (vs : List ℕ) → Below (2 ^ 32) vs → ordered m vs ≡ true → valuesOf m (entriesOf m vs) ≡ vs
+unfolding entriesOf valuesOf ordered
+values-entries m [] w o = refl
+values-entries m (v ∷ vs) w o = values-back m (v ∷ vs) (admits-starts m v (w 0) (and-both (admits m v) _ o .0)) w
+
+pub entries-values : (m : Mode) (es : List ℕ) → Below (2 ^ 32) es → ordered m (valuesOf m es) ≡ true → entriesOf m (valuesOf m es) ≡ es
+unfolding entriesOf valuesOf ordered
+entries-values m [] w o = refl
+entries-values m (e ∷ es) w o =
+    entries-back m (e ∷ es) (admits-starts m (nextValue m e) (value-small m (firstOf m) e (w 0)) (and-both (admits m (nextValue m e)) _ o .0)) w
 
 -- in plain mode they are the same numbers
 pub plain-values : (es : List ℕ) → valuesOf Plain es ≡ es

@@ -1,6 +1,6 @@
 -- The order of "Lists" in document 01, and a list's entries and values, one after another. The mode goes along with them: past a
--- value it is the list's mode with that value in place of the first number. So the ends of blocks play no part here. That "the
--- previous value of a block's first is the last value of the block before" is a theorem (crates/bodies/proofs/Onward, body-next).
+-- value it is the list's mode with that value in place of the first number. So the ends of blocks play no part here: that "the
+-- previous value of a block's first is the last value of the block before" is a claim (Claims, ListEntries and ListValues).
 use mathlib.Core.Bool.{Bool, true, _&&_, cond}
 use mathlib.Core.List.{List, [], _∷_}
 use Prim.Native.Nat.{ℕ}

@@ -1,7 +1,7 @@
 -- For each public function of the crate: it asks nothing of its caller; two answers that its contract allows for one input are equal, and so
 -- is what it leaves in the memory that it was lent to write.
 use mathlib.Core.Path.{sym, _∙_}
-use Rattle.answers.proofs.Contracts.{AsksNothing, Determined}
+use Rattle.answers.specs.Contracts.{AsksNothing, Determined}
 use Rattle.programs.proofs.list_to_text.Reads as list-to-text
 use Rattle.programs.proofs.list_to_text.Kinds as list-to-text-kinds
 use Rattle.programs.proofs.text_to_list.Reads as text-to-list

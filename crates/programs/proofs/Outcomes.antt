@@ -15,7 +15,7 @@ use Rattle.answers.proofs.Parts.{part-is}
 use Rattle.answers.specs.declared.Answer.{Answer}
 use Rattle.answers.specs.declared.Refusal.{Refusal}
 use Rattle.answers.specs.declared.Refusal.the-variants.{Accepted, BadLanes, NoRoom, TooMany, OutOfOrder, BadHeader}
-use Rattle.answers.specs.Refusals.{numberOf, accepted, refuse}
+use Rattle.answers.specs.Refusals.{numberOf, accepted, refuse, orElse}
 use Rattle.answers.proofs.Refusals.{both, first-stops, first-passes, refused}
 use Rattle.layout.specs.Layout.{isLanes}
 use Rattle.order.specs.Order.{starting, ordered}
@@ -24,7 +24,7 @@ use Rattle.modes.specs.declared.Mode.{Mode}
 use Rattle.bodies.specs.List.{most}
 use Rattle.bodies.proofs.Sizes.{length-list}
 use Rattle.lists.specs.Calls.{measureRefusal}
-use Rattle.lists.proofs.Accepts.{Readable, read-exactly}
+use Rattle.lists.proofs.Accepts.{writing-parts, Readable, read-exactly}
 use Rattle.text.specs.Text.{same}
 use Rattle.files.specs.declared.SettingsFound.{SettingsFound}
 use Rattle.files.specs.kernel.Finding.{settingsIn}
@@ -144,7 +144,7 @@ module _ (text : List ℕ) where
         pub too-many : most < length (valuesIn text) → refusedLine TooMany ≡ textToList text
         unfolding measureRefusal
         too-many h =
-            let k : measureRefusal (settingsIn text .lanes) (settingsIn text .mode) (valuesIn text) ≡ TooMany = rw (settings-sets text set .lanes, lt-ltb most (length (valuesIn text)) h) in
+            let k : measureRefusal (settingsIn text .lanes) (settingsIn text .mode) (valuesIn text) ≡ TooMany = rw (settings-sets text set .told .lanes, lt-ltb most (length (valuesIn text)) h) in
             sym (ap (λ (t : Refusal). output t (fileFor (settingsIn text .lanes) (settingsIn text .mode) (valuesIn text))) k) ∙ list-out
 
 -- what was told of the lines behind the settings
@@ -180,11 +180,14 @@ module _ (L : ℕ) (m : Mode) (vs before : List ℕ) {r : Answer} {after : List 
   abbrev Told : Type 0
   Told = (r ≡ outAnswer (output (measureRefusal L m vs) (fileFor L m vs)) (length before)) × (after ≡ outLeft (output (measureRefusal L m vs) (fileFor L m vs)) before)
 
-  given : r .refusal ≡ writeFileRefusal L m vs (length before)
-  given = ap (λ (a : Answer). a .refusal) (told .0)
+  parts : writeFileRefusal L m vs (length before) ≡ orElse (measureRefusal L m vs) (refuse (ltb (length before) (length (fileFor L m vs))) NoRoom Accepted)
+  parts = writing-parts L m vs (length (fileFor L m vs)) (length before)
+
+  given : r .refusal ≡ orElse (measureRefusal L m vs) (refuse (ltb (length before) (length (fileFor L m vs))) NoRoom Accepted)
+  given = ap (λ (a : Answer). a .refusal) (told .0) ∙ parts
 
   measured : accepted (measureRefusal L m vs) ≡ true → Told
-  measured g = (told .0 ∙ rw g, told .1 ∙ rw g)
+  measured g = (told .0 ∙ rw (parts, g), told .1 ∙ rw (parts, g))
 
   -- where the values are refused, so is writing
   stopped : accepted (measureRefusal L m vs) ≡ false → r .refusal ≡ measureRefusal L m vs
@@ -212,4 +215,4 @@ module _ (L : ℕ) (m : Mode) (vs before : List ℕ) {r : Answer} {after : List 
 
       go : (b : Bool) → accepted (measureRefusal L m vs) ≡ b → (refusedLine (r .refusal) ≡ output (measureRefusal L m vs) (fileFor L m vs)) × (after ≡ before)
       go true g = absurd (room (ltb (length before) (length (fileFor L m vs))) (given ∙ first-passes (measureRefusal L m vs) _ g))
-      go false g = (ap refusedLine (stopped g) ∙ sym (rw g), told .1 ∙ rw (first-stops (measureRefusal L m vs) (refuse (ltb (length before) (length (fileFor L m vs))) NoRoom Accepted) g, g))
+      go false g = (ap refusedLine (stopped g) ∙ sym (rw g), told .1 ∙ rw (parts, first-stops (measureRefusal L m vs) (refuse (ltb (length before) (length (fileFor L m vs))) NoRoom Accepted) g, g))

@@ -1,11 +1,10 @@
 -- What the two programs do, there and back.
 use mathlib.Core.Path.{_≡_, refl, sym, _∙_, ap}
 use mathlib.Core.Bool.{Bool, true, false, not}
-use mathlib.Core.Logic.{_↔_}
 use mathlib.Core.List.{List, [], _∷_}
 use Prim.Native.Nat.{ℕ, _+_, _≤_}
 use native.Mathlib.Omega.{arith}
-use borrow.Author.Tests.{le-ltb, ltb-false}
+use borrow.Author.Tests.{le-ltb}
 use lib.Dec.{ltb}
 use lib.ListN.{length, length-append}
 use Rattle.layout.specs.Layout.{Below}
@@ -39,7 +38,7 @@ use Rattle.files.proofs.Filing.{file-splits}
 use Rattle.files.proofs.Theorems.{settings-back, rest-found, settings-sets, header-heads, fields-found, heads-file, body-found, opened, held, same-file, file-accepted, file-list-back}
 use Rattle.programs.specs.Lines.{valueLines}
 use Rattle.programs.specs.kernel.Lines.{linesIn}
-use Rattle.programs.specs.Claims.{TextsExactly, TextValues}
+use Rattle.programs.specs.Claims.{TextsExactly, TextValues, FileNumbers, TextNumbers, TextRoom, FileRoom, ValuesBack, FileBack}
 use Rattle.programs.specs.Programs.{refusedLine, output, limitRefusal, fileRefusal, listToText, IsText, restIn, valuesIn, isText, textRefusal, textToList, isOne, HasOne, outAnswer, outLeft}
 use Rattle.programs.proofs.ValueLines.{lines-short}
 use Rattle.programs.proofs.Found.{values-found, found-small}
@@ -64,7 +63,7 @@ sound-text text h =
     let s = settings-sets text (a .0) in
     let e : restIn text ≡ valueLines (valuesIn text) = same-is (valueLines (valuesIn text)) (restIn text) (a .1) in
     record {
-      sets = record { lanes = s .lanes; mode = s .mode; first = s .first; whole = s .whole ∙ ap (settings (settingsIn text .lanes) (settingsIn text .mode)) e };
+      sets = record { told = s .told; whole = s .whole ∙ ap (settings (settingsIn text .lanes) (settingsIn text .mode)) e };
       values = found-small (restIn text);
     }
 
@@ -101,7 +100,7 @@ output-short k t n some h = go (accepted k) refl
     go false q = rw q (omega (arith, refused-short k))
 
 -- 4,096 values of ten digits
-pub text-short : (file : List ℕ) → length (listToText file) ≤ 45056
+pub text-short : TextRoom
 unfolding listToText
 text-short file =
     output-short (fileRefusal file) (valueLines (listIn file)) 45056 (omega arith)
@@ -118,7 +117,7 @@ file-length L m vs h =
     let e : length (fileFor L m vs) ≡ length (headerText (headerFor L m vs)) + length (bodyOf L m vs) = ap length (sym (file-splits (headerFor L m vs) (bodyOf L m vs))) ∙ length-append (headerText (headerFor L m vs)) (bodyOf L m vs) in
     omega (arith, e, header-short (headerFor L m vs), body-short L (a .lanes) m vs (a .few))
 
-pub file-short : (text : List ℕ) → length (textToList text) ≤ 16593
+pub file-short : FileRoom
 unfolding textToList
 file-short text =
     output-short (textRefusal text) (fileFor (settingsIn text .lanes) (settingsIn text .mode) (valuesIn text)) 16593 (omega arith)
@@ -137,7 +136,7 @@ whole-left t before h = rw (le-ltb (length before) (length t) h)
 -- which numbers arise
 
 -- from a file: 12, 7, and those of a body
-pub file-numbers : (file : List ℕ) → HasOne (0 ∷ 12 ∷ 7 ∷ 5 ∷ 2 ∷ 10 ∷ 9 ∷ 8 ∷ 11 ∷ []) (fileRefusal file)
+pub file-numbers : FileNumbers
 unfolding isOne
 file-numbers file =
     either Mine (limitRefusal file) _ (refused Mine (ltb 65536 (length file)) BadHeader Accepted refl refl) (go (isFile file) refl)
@@ -152,12 +151,12 @@ file-numbers file =
     go : (b : Bool) → isFile file ≡ b → HasOne (0 ∷ 12 ∷ 7 ∷ 5 ∷ 2 ∷ 10 ∷ 9 ∷ 8 ∷ 11 ∷ []) (readFileRefusal file most)
     go false q = rw q
     go true q =
-        rw (q, header-heads file q .sound .lanes)
+        rw (q, header-heads file q .sound .told .lanes)
         (tests (ltb most (headerIn file .count)) (bodyRefusal (headerIn file .lanes) (starting (headerIn file .mode)) (headerIn file .count) (bodyIn file))
         (body-only Mine refl refl refl refl refl refl refl (headerIn file .lanes) (starting (headerIn file .mode)) (headerIn file .count) (bodyIn file)))
 
 -- from a text: 12, 7 and 8
-pub text-numbers : (text : List ℕ) → HasOne (0 ∷ 12 ∷ 7 ∷ 8 ∷ []) (textRefusal text)
+pub text-numbers : TextNumbers
 unfolding isOne measureRefusal
 text-numbers text =
     either Mine (limitRefusal text) _ (refused Mine (ltb 65536 (length text)) BadHeader Accepted refl refl) (go (isText text) refl)
@@ -168,7 +167,7 @@ text-numbers text =
     go : (b : Bool) → isText text ≡ b → HasOne (0 ∷ 12 ∷ 7 ∷ 8 ∷ []) (refuse (not (isText text)) BadHeader (measureRefusal (settingsIn text .lanes) (settingsIn text .mode) (valuesIn text)))
     go false q = rw q
     go true q =
-        rw (q, sound-text text q .sets .lanes)
+        rw (q, sound-text text q .sets .told .lanes)
         (refused Mine (ltb most (length (valuesIn text))) TooMany _ refl (refused Mine (not (ordered (starting (settingsIn text .mode)) (valuesIn text))) OutOfOrder Accepted refl refl))
 
 -- "Number 4 does not arise in the programs."
@@ -195,12 +194,12 @@ text-length L m vs few =
 pub values-back : {text : List ℕ} {L : ℕ} {m : Mode} {vs : List ℕ} → IsText text L m vs → IsList m (length vs) vs → listToText (textToList text) ≡ valueLines vs
 unfolding listToText
 values-back {text} {L} {m} {vs} t l =
-    let lanes = t .sets .lanes in
+    let lanes = t .sets .told .lanes in
     let k : accepted (measureRefusal L m vs) ≡ true = measure-exactly L m vs .1 (record { lanes = lanes; few = l .few; order = l .order }) in
     let fits : length text ≤ 65536 = rw (t .sets .whole) (omega (arith, text-length L m vs (l .few))) in
     let f : textToList text ≡ fileFor L m vs = text-told t fits ∙ rw k in
     let short : length (fileFor L m vs) ≤ 65536 = omega (arith, file-length L m vs k) in
-    rw (f, le-ltb 65536 (length (fileFor L m vs)) short, file-accepted L m vs lanes (t .sets .first) l most (l .few), file-list-back L m vs lanes (t .sets .first) l)
+    rw (f, le-ltb 65536 (length (fileFor L m vs)) short, file-accepted L m vs lanes (t .sets .told .first) l most (l .few), file-list-back L m vs lanes (t .sets .told .first) l)
 
 -- a file that is read, printed and packed again: the same bytes
 module _ (file : List ℕ) (bytes : Below 256 file) (h : accepted (readFileRefusal file most) ≡ true) where
@@ -211,7 +210,7 @@ module _ (file : List ℕ) (bytes : Below 256 file) (h : accepted (readFileRefus
   mode = headerIn file .mode
 
   measures : accepted (measureRefusal (headerIn file .lanes) (headerIn file .mode) (listIn file)) ≡ true
-  measures = measure-exactly lanes mode (listIn file) .1 (record { lanes = opened file most bytes h .sound .lanes; few = list-few file h; order = held file most bytes h .list .order })
+  measures = measure-exactly lanes mode (listIn file) .1 (record { lanes = opened file most bytes h .sound .told .lanes; few = list-few file h; order = held file most bytes h .list .order })
 
   pub printed : listToText file ≡ valueLines (listIn file)
   printed =
@@ -222,5 +221,12 @@ module _ (file : List ℕ) (bytes : Below 256 file) (h : accepted (readFileRefus
   file-back =
       let o = opened file most bytes h .sound in
       let l = held file most bytes h .list in
-      let t : IsText (textOf lanes mode (listIn file)) lanes mode (listIn file) = record { sets = record { lanes = o .lanes; mode = o .mode; first = o .first; whole = refl }; values = l .small } in
+      let t : IsText (textOf lanes mode (listIn file)) lanes mode (listIn file) = record { sets = record { told = o .told; whole = refl }; values = l .small } in
       ap (λ (x : List ℕ). textToList (settings lanes mode x)) printed ∙ text-told t (omega (arith, text-length lanes mode (listIn file) (list-few file h))) ∙ rw measures (same-file file most bytes h)
+
+-- and so the claims
+pub lists-back : ValuesBack
+lists-back text L m vs t l = values-back t l
+
+pub files-back : FileBack
+files-back = file-back

@@ -15,7 +15,7 @@ use Rattle.answers.specs.Answers.{over}
 use Rattle.answers.proofs.Parts.{part-length}
 use Rattle.answers.proofs.Fronts.{take-more, Front, front-none, front-length, front-put, front-part}
 use Rattle.text.specs.declared.Numeral.{Numeral}
-use Rattle.text.specs.Text.{word, decimal, begins, same, fitted, numberLine}
+use Rattle.text.specs.Text.{decimal, begins, same, fitted, numberLine}
 use Rattle.text.proofs.Decimals.{decimal-some}
 use Rattle.text.proofs.Lines.{put-whole, number-line-short, line-rest}
 use Rattle.text.proofs.Beginnings.{stands-whole, is-same}
@@ -45,7 +45,7 @@ unfolding valueLines
 lines-short [] = omega arith
 lines-short (v ∷ vs) =
     let e : length (valueLine v (valueLines vs)) ≡ length (valueLine v []) + length (valueLines vs) = ap length (sym (line-rest "" (decimal v) (valueLines vs))) ∙ length-append (valueLine v []) (valueLines vs) in
-    omega (arith, e, number-line-short (word "") v, lines-short vs)
+    omega (arith, e, number-line-short [] v, lines-short vs)
 
 -- writing: the lines of the first i values stand at the front of `out`
 pub record Writing (vs before : List ℕ) (i n : ℕ) (out : List ℕ) : Type 0 where
@@ -73,11 +73,11 @@ module _ {vs before : List ℕ} {i n : ℕ} {out : List ℕ} (w : Writing vs bef
     writing-more k ys put =
         let v = at vs i in
         let e : valueLines (take (i + 1) vs) ≡ valueLines (take i vs) ++ valueLine v [] = ap valueLines (take-more vs i lt) ∙ lines-more (take i vs) v in
-        let whole = put-whole {t₀ = valueLine v []} (midOf n (length out - n) out) refl (rw (part-length n out) (omega (arith, writing-room, number-line-short (word "") v))) put in
+        let whole = put-whole {t₀ = valueLine v []} (midOf n (length out - n) out) refl (rw (part-length n out) (omega (arith, writing-room, number-line-short [] v))) put in
         record {
           some = omega arith;
           size = ap length e ∙ length-append (valueLines (take i vs)) (valueLine v []) ∙ rw (w .size, ← whole .0);
-          here = rw e (front-part (w .here) n (w .size) (valueLine v []) ys (omega (arith, writing-length, writing-room, number-line-short (word "") v)) (whole .1));
+          here = rw e (front-part (w .here) n (w .size) (valueLine v []) ys (omega (arith, writing-length, writing-room, number-line-short [] v)) (whole .1));
         }
 
   pub writing-all : length vs ≤ i → (n ≡ length (valueLines vs)) × (out ≡ over (valueLines vs) before)

@@ -75,7 +75,7 @@ textRefusal text =
 unfoldable pub textToList : List ℕ → List ℕ
 textToList text = output (textRefusal text) (fileFor (settingsIn text .lanes) (settingsIn text .mode) (valuesIn text))
 
--- whether a refusal has one of some numbers: "Number 4 does not arise in the programs" (proofs/Theorems, file-numbers, text-numbers)
+-- whether a refusal has one of some numbers: "Number 4 does not arise in the programs" (Claims, FileNumbers and TextNumbers)
 unfoldable pub isOne : List ℕ → ℕ → Bool
 isOne [] n = false
 isOne (x ∷ xs) n = eqb n x || isOne xs n
@@ -83,8 +83,8 @@ isOne (x ∷ xs) n = eqb n x || isOne xs n
 abbrev pub HasOne : List ℕ → Refusal → Type 0
 HasOne numbers k = isOne numbers (numberOf k) ≡ true
 
--- A call puts what goes out at the front of the caller's output, and 4 is its answer where that is too short: see proofs/Theorems for
--- the room that is always enough.
+-- A call puts what goes out at the front of the caller's output, and 4 is its answer where that is too short: Claims has the room that is
+-- always enough, TextRoom and FileRoom.
 abbrev pub roomRefusal : List ℕ → ℕ → Refusal
 roomRefusal text room = refuse (ltb room (length text)) NoRoom Accepted
 

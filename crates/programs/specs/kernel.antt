@@ -1,3 +1,3 @@
--- How the values of a text are found. Public definitions are built on it, and nobody need believe it: texts-exactly and values-told
--- (proofs/Theorems) say what is accepted and found.
+-- How the values of a text are found. Public definitions are built on it, and nobody need believe it: Claims says what is accepted and found,
+-- TextsExactly and TextValues.
 pub mod Lines

@@ -1,7 +1,6 @@
 -- Kinds told apart by a match.
 use mathlib.Core.Path.{_≡_, refl}
 use Prim.Native.Nat.{ℕ, zero, suc}
-use native.Mathlib.Omega.{arith}
 use Rattle.modes.specs.declared.Initial.the-variants.{Number}
 use Rattle.modes.specs.declared.Mode.the-variants.{Strict}
 use Rattle.sisalshed.specs.Crossing.{modeOf}

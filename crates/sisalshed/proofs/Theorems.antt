@@ -1,31 +1,26 @@
 -- What crosses loses nothing.
 use mathlib.Core.Path.{_≡_, refl, sym}
 use mathlib.Core.Bool.{Bool, true, false}
-use mathlib.Core.List.{List}
-use Prim.Native.Nat.{ℕ, _+_, _≤_}
 use native.Mathlib.Omega.{arith}
 use lib.ListN.{length, drop, take}
 use lib.Seq.{take-length}
 use Rattle.modes.specs.declared.Initial.the-variants.{None, Number}
-use Rattle.modes.specs.declared.Mode.{Mode}
 use Rattle.modes.specs.declared.Mode.the-variants.{Plain, Sorted, Strict}
-use Rattle.answers.specs.declared.Refusal.{Refusal}
 use Rattle.answers.specs.declared.Refusal.the-variants.{Accepted, BadLanes, BadWidth, BadBlock, NoRoom, CutShort, TooWide, TooMany, OutOfOrder, NotLeast, BadFill, LeftOver, BadHeader}
-use Rattle.answers.specs.Refusals.{numberOf}
 use Rattle.files.specs.Opening.{bodyIn, isFile, openAnswer}
-use Rattle.sisalshed.specs.Crossing.{modeOf, kindOf, firstGiven}
 use Rattle.sisalshed.specs.Calls.{bodyCrossed}
+use Rattle.sisalshed.specs.Claims.{ModeBack, PartIsBody, PartToTheEnd, NumberKnown}
 use Rattle.sisalshed.proofs.Parts.{two-parts}
 
 -- a mode comes back from its two numbers
-pub mode-back : (m : Mode) → modeOf (kindOf m) (firstGiven m) ≡ m
+pub mode-back : ModeBack
 mode-back Plain = refl
 mode-back (Sorted f) = refl
 mode-back (Strict None) = refl
 mode-back (Strict (Number f)) = refl
 
 -- the bytes that the answer points at are the part that document 01 hands back
-pub part-is-body : (file : List ℕ) → take (bodyCrossed file .length) (drop (bodyCrossed file .start) file) ≡ openAnswer file
+pub part-is-body : PartIsBody
 part-is-body file = go (isFile file) refl
   where
     go : (b : Bool) → isFile file ≡ b → take (bodyCrossed file .length) (drop (bodyCrossed file .start) file) ≡ openAnswer file
@@ -33,11 +28,11 @@ part-is-body file = go (isFile file) refl
     go false e = rw e refl
 
 -- and go to the end of the file
-pub part-to-the-end : (file : List ℕ) → isFile file ≡ true → bodyCrossed file .start + bodyCrossed file .length ≡ length file
+pub part-to-the-end : PartToTheEnd
 part-to-the-end file f = rw f (sym (two-parts file))
 
 -- the numbers are those of the header's enum
-pub number-known : (k : Refusal) → numberOf k ≤ 12
+pub number-known : NumberKnown
 number-known Accepted = omega arith
 number-known BadLanes = omega arith
 number-known BadWidth = omega arith

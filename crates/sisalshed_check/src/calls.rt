@@ -16,23 +16,23 @@ use tables::bytes_sum;
 use tables::line::Numbers;
 use tables::line::no_numbers;
 use tables::values_sum;
+use tables::words::amount;
 use tables::words::narrow;
-use tables::words::number;
 
 fn lanes(case: &[u8]) -> usize {
-    number(b'l', case) as usize
+    amount(b'l', case) as usize
 }
 
 fn kind(case: &[u8]) -> u32 {
-    narrow(number(b'k', case))
+    narrow(amount(b'k', case))
 }
 
 fn first(case: &[u8]) -> u32 {
-    narrow(number(b'f', case))
+    narrow(amount(b'f', case))
 }
 
 fn width(case: &[u8]) -> u32 {
-    narrow(number(b'w', case))
+    narrow(amount(b'w', case))
 }
 
 fn numbers_of(answer: CAnswer) -> Numbers {
@@ -91,7 +91,7 @@ fn read(call: u8, case: &[u8], bytes: &[u8], output: &mut [u32]) -> CAnswer {
             lanes(case),
             kind(case),
             first(case),
-            number(b'c', case) as usize,
+            amount(b'c', case) as usize,
             bytes,
             output,
         ),

@@ -16,18 +16,18 @@ use tables::buffers::table_room;
 use tables::decode;
 use tables::lesser;
 use tables::line;
+use tables::words::amount;
 use tables::words::before;
 use tables::words::behind;
 use tables::words::given_values;
 use tables::words::letter_at;
-use tables::words::number;
 use tables::words::value;
 
 mod calls;
 
 // How much room the output has.
 fn room(case: &[u8]) -> usize {
-    number(b'r', case) as usize
+    amount(b'r', case) as usize
 }
 
 // The calls that write bytes.
@@ -40,7 +40,7 @@ fn write_values(call: u8, case: &[u8], values: &[u32]) {
 // The calls on values.
 fn on_values(call: u8, case: &[u8]) {
     let all = given_values(case);
-    let values = first_values(&all, number(b'v', case) as usize);
+    let values = first_values(&all, amount(b'v', case) as usize);
     match call {
         b'c' | b'l' | b'f' => write_values(call, case, values),
         _ => ask(call, case, values),

@@ -1,7 +1,7 @@
 -- For each public function of the crate: it asks nothing of its caller; two answers that its contract allows for one input are equal, and so
 -- is what it leaves in the memory that it was lent to write.
 use mathlib.Core.Path.{refl, sym, _∙_}
-use Rattle.answers.proofs.Contracts.{AsksNothing, AnswerDetermined, SeenDetermined, Determined}
+use Rattle.answers.specs.Contracts.{AsksNothing, AnswerDetermined, SeenDetermined, Determined}
 use Rattle.tables.proofs.lesser.Reads as lesser
 use Rattle.tables.proofs.lesser.Kinds as lesser-kinds
 use Rattle.tables.proofs.bytes_sum_from.Reads as bytes-sum-from
@@ -14,8 +14,6 @@ use Rattle.tables.proofs.decode.Reads as decode
 use Rattle.tables.proofs.decode.Kinds as decode-kinds
 use Rattle.tables.proofs.place_of.Reads as place-of
 use Rattle.tables.proofs.place_of.Kinds as place-of-kinds
-use Rattle.tables.proofs.wide.Reads as wide
-use Rattle.tables.proofs.wide.Kinds as wide-kinds
 use Rattle.tables.proofs.noise_after.Reads as noise-after
 use Rattle.tables.proofs.noise_after.Kinds as noise-after-kinds
 use Rattle.tables.proofs.buffers.table_room.Reads as table-room
@@ -42,8 +40,8 @@ use Rattle.tables.proofs.words.value.Reads as value
 use Rattle.tables.proofs.words.value.Kinds as value-kinds
 use Rattle.tables.proofs.words.decimal.Reads as decimal
 use Rattle.tables.proofs.words.decimal.Kinds as decimal-kinds
-use Rattle.tables.proofs.words.number.Reads as number
-use Rattle.tables.proofs.words.number.Kinds as number-kinds
+use Rattle.tables.proofs.words.amount.Reads as amount
+use Rattle.tables.proofs.words.amount.Kinds as amount-kinds
 use Rattle.tables.proofs.words.second.Reads as second
 use Rattle.tables.proofs.words.second.Kinds as second-kinds
 use Rattle.tables.proofs.words.narrow.Reads as narrow
@@ -112,12 +110,6 @@ place-of-asks-nothing κs a = tt
 
 place-of-determined : AnswerDetermined place-of-kinds.ps place-of-kinds.r place-of.Post
 place-of-determined κs a z z′ e e′ p q = p .0 ∙ sym (q .0)
-
-wide-asks-nothing : AsksNothing wide-kinds.ps wide.Pre
-wide-asks-nothing κs a = tt
-
-wide-determined : AnswerDetermined wide-kinds.ps wide-kinds.r wide.Post
-wide-determined κs a z z′ e e′ p q = p .0 ∙ sym (q .0)
 
 noise-after-asks-nothing : AsksNothing noise-after-kinds.ps noise-after.Pre
 noise-after-asks-nothing κs a = tt
@@ -197,11 +189,11 @@ decimal-asks-nothing κs a = tt
 decimal-determined : AnswerDetermined decimal-kinds.ps decimal-kinds.r decimal.Post
 decimal-determined κs a z z′ e e′ p q = p ∙ sym q
 
-number-asks-nothing : AsksNothing number-kinds.ps number.Pre
-number-asks-nothing κs a = tt
+amount-asks-nothing : AsksNothing amount-kinds.ps amount.Pre
+amount-asks-nothing κs a = tt
 
-number-determined : AnswerDetermined number-kinds.ps number-kinds.r number.Post
-number-determined κs a z z′ e e′ p q = p ∙ sym q
+amount-determined : AnswerDetermined amount-kinds.ps amount-kinds.r amount.Post
+amount-determined κs a z z′ e e′ p q = p ∙ sym q
 
 second-asks-nothing : AsksNothing second-kinds.ps second.Pre
 second-asks-nothing κs a = tt

@@ -3,7 +3,7 @@ use mathlib.Core.Bool.{Bool, false, cond}
 use mathlib.Core.List.{List, [], _∷_}
 use Prim.Native.Nat.{ℕ, zero, suc, _+_, _*_, _%_}
 use lib.Dec.{eqb}
-use lib.ListN.{length, take, drop}
+use lib.ListN.{take, drop}
 use Rattle.layout.specs.Layout.{at}
 use Rattle.modes.specs.declared.Initial.{Initial}
 use Rattle.modes.specs.declared.Initial.the-variants.{None, Number}
@@ -44,8 +44,8 @@ decimalOf [] = 18446744073709551615
 decimalOf (x ∷ xs) = digitsFrom 0 (x ∷ xs)
 
 -- the numbers of a word, `:` between them
-unfoldable pub numberOf : ℕ → List ℕ → ℕ
-numberOf letter line = decimalOf (beforeOf 58 (valueOf letter line))
+unfoldable pub amountOf : ℕ → List ℕ → ℕ
+amountOf letter line = decimalOf (beforeOf 58 (valueOf letter line))
 
 unfoldable pub secondOf : ℕ → List ℕ → ℕ
 secondOf letter line = decimalOf (behindOf 58 (valueOf letter line))
@@ -61,7 +61,7 @@ initialIn first = cond (eqb (at first 0) 110) None (Number (narrowed (decimalOf 
 unfoldable pub modeIn : List ℕ → Mode
 modeIn line =
     cond (eqb (at (valueOf 109 line) 1) 108) Plain
-    (cond (eqb (at (valueOf 109 line) 1) 111) (Sorted (narrowed (numberOf 102 line))) (Strict (initialIn (beforeOf 58 (valueOf 102 line)))))
+    (cond (eqb (at (valueOf 109 line) 1) 111) (Sorted (narrowed (amountOf 102 line))) (Strict (initialIn (beforeOf 58 (valueOf 102 line)))))
 
 -- the next number of a list with `,` between the numbers, and behind the last a step more than the number before
 unfoldable pub nextListed : List ℕ → ℕ → ℕ → ℕ

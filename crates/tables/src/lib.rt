@@ -1,5 +1,6 @@
 // What the programs of checks share that read a table on standard input: checksums, bytes in hex, the words of a line, buffers that are full of
 // marks, and what is written of an answer.
+use lanes::wide;
 ghost use mathlib.Core.Path.{_≡_};
 ghost use Prim.Native.Nat.{_+_, _*_, _/_, _%_, _≤_, _<_, min};
 ghost use lib.ListN.{length, take};
@@ -23,14 +24,6 @@ fn added(sum: u32, value: u32) -> u32
     ensures { λ r. ⌜ r ≡ (sum * 31 + value) % 4294967296 ⌝ }
 {
     ((sum as u64 * 31 + value as u64) % 4294967296) as u32
-}
-
-// A byte as a value.
-pub fn wide(byte: u8) -> u32
-    ensures { λ r. ⌜ r ≡ byte ⌝ }
-    ensures { λ r. ⌜ r < 256 ⌝ }
-{
-    byte as u32
 }
 
 // A checksum with some bytes more in it.

@@ -2,8 +2,8 @@
 use crate::lesser;
 use crate::place_of;
 use crate::values_sum;
-use crate::wide;
 use answers::Answer;
+use lanes::wide;
 use libc::STDOUT_FILENO;
 ghost use mathlib.Core.Path.{_≡_};
 ghost use Rattle.answers.specs.Refusals.{numberOf};

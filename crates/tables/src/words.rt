@@ -6,11 +6,10 @@ use modes::Mode;
 use std::num::wrapping_add_u32;
 use std::num::wrapping_add_u64;
 ghost use mathlib.Core.Path.{_≡_};
-ghost use mathlib.Core.Bool.{cond};
 ghost use Prim.Native.Nat.{_+_, _*_, _-_, _%_, _≤_, _<_};
-ghost use lib.ListN.{length, take, drop};
+ghost use lib.ListN.{length, drop};
 ghost use Rattle.layout.specs.Layout.{at, table};
-ghost use Rattle.tables.specs.Words.{beforeOf, behindOf, isName, wordOf, valueOf, withDigit, digitsFrom, decimalOf, numberOf, secondOf, initialIn, modeIn, nextListed, listed};
+ghost use Rattle.tables.specs.Words.{beforeOf, behindOf, isName, wordOf, valueOf, withDigit, decimalOf, amountOf, secondOf, initialIn, modeIn, nextListed, listed};
 
 // The letter at a place, and 0 where there is none.
 pub fn letter_at(text: &[u8], place: usize) -> u8
@@ -95,8 +94,8 @@ pub fn decimal(text: &[u8]) -> u64
 }
 
 // The number of a word, or the first of its two numbers. The largest number stands for a word that is not there.
-pub fn number(letter: u8, line: &[u8]) -> u64
-    ensures { λ r. ⌜ r ≡ numberOf letter (now (line .entry)) ⌝ }
+pub fn amount(letter: u8, line: &[u8]) -> u64
+    ensures { λ r. ⌜ r ≡ amountOf letter (now (line .entry)) ⌝ }
 {
     decimal(before(b':', value(letter, line)))
 }
@@ -166,10 +165,10 @@ pub fn put_values(text: &[u8], step: u32, values: &mut [u32])
 
 // The values of the words `given` and `step`: those that are given, and then values that go on by the step.
 pub fn given_values(line: &[u8]) -> [u32; 4104]
-    ensures { λ r. ⌜ r ≡ table (listed (valueOf 103 (now (line .entry))) (numberOf 115 (now (line .entry)) % 4294967296)) 4104 ⌝ }
+    ensures { λ r. ⌜ r ≡ table (listed (valueOf 103 (now (line .entry))) (amountOf 115 (now (line .entry)) % 4294967296)) 4104 ⌝ }
     ensures { λ r. ⌜ 4104 ≡ length r ⌝ }
 {
     let mut values = [0u32; 4104];
-    put_values(value(b'g', line), narrow(number(b's', line)), &mut values);
+    put_values(value(b'g', line), narrow(amount(b's', line)), &mut values);
     values
 }

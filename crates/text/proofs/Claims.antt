@@ -2,13 +2,13 @@
 use mathlib.Core.Path.{_≡_}
 use mathlib.Core.List.{[], _∷_, _++_}
 use Prim.Native.Nat.{ℕ, zero, suc, _+_, _-_, _/_, _%_, _^_, _≤_, _<_}
-use native.Mathlib.Nat.{pow-suc, pow-succ', div-lt-iff-lt-mul, le-div-iff-mul-le, mod-eq-of-lt}
+use native.Mathlib.Nat.{pow-succ', div-lt-iff-lt-mul, le-div-iff-mul-le, mod-eq-of-lt}
 use native.Mathlib.Omega.{arith}
 use native.Mathlib.Decide.{decLt}
 use lib.ListN.{getD, List·getD-append}
 use lib.Seq.{getD-at}
 use Rattle.text.specs.Text.{digits, places, decimal}
-use Rattle.text.specs.Claims.{IsDecimal, Decimals}
+use Rattle.text.specs.Claims.{Decimals}
 use Rattle.text.proofs.Spelling.{power-some}
 use Rattle.text.proofs.Decimals.{length-digits, digits-front, places-one, places-some, places-enough, places-least, decimal-value}
 

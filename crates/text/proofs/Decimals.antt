@@ -8,7 +8,7 @@ use native.Mathlib.Omega.{arith}
 use native.Mathlib.Decide.{decLt}
 use borrow.Author.Tests.{lt-ltb, le-ltb, le-leb, lt-leb}
 use lib.ListN.{length, length-append}
-use Rattle.text.specs.Text.{digits, places, decimal, fitted, leading, valueFrom, numberIn}
+use Rattle.text.specs.Text.{digits, places, decimal, fitted, leading, valueFrom, leadingNumber}
 
 -- digits
 
@@ -129,7 +129,7 @@ leading-digits (suc k) n (suc most) rest h =
     rw (digits-front k n, le-leb 48 d (omega arith), le-leb d 57 (omega arith)) (ap (λ (t : List ℕ). d ∷ t) (leading-digits k n most rest (omega arith)))
 
 -- a number with byte 10 behind it is read
-pub number-back : (n : ℕ) (rest : List ℕ) → n < 2 ^ 32 → numberIn (decimal n ++ (10 ∷ rest)) ≡ n
+pub number-back : (n : ℕ) (rest : List ℕ) → n < 2 ^ 32 → leadingNumber (decimal n ++ (10 ∷ rest)) ≡ n
 unfolding decimal
 number-back n rest h =
     let l : leading 10 (decimal n ++ (10 ∷ rest)) ≡ decimal n = leading-digits (places 9 n) n 10 rest (places-few 9 n) in

@@ -28,12 +28,16 @@ unfoldable pub decimal : ℕ → List ℕ
 decimal n = digits (places 9 n) n
 
 -- "Each line ends in byte 10": a line, with the rest of a text behind it
+abbrev pub ended : List ℕ → List ℕ → List ℕ
+ended value rest = value ++ (10 ∷ rest)
+
+-- a line that begins with a name
 abbrev pub line : S.String → List ℕ → List ℕ → List ℕ
-line name value rest = word name ++ (value ++ (10 ∷ rest))
+line name value rest = word name ++ ended value rest
 
 -- the line of a name and a number
 abbrev pub numbered : List ℕ → ℕ → List ℕ
-numbered name n = name ++ (decimal n ++ (10 ∷ []))
+numbered name n = name ++ ended (decimal n) []
 
 -- whether bs begins with the text t
 unfoldable pub begins : List ℕ → List ℕ → Bool
@@ -60,13 +64,13 @@ unfoldable pub valueFrom : ℕ → List ℕ → ℕ
 valueFrom n [] = n
 valueFrom n (d ∷ ds) = valueFrom (n * 10 + (d - 48)) ds
 
--- the number that bs begins with, as far as ten digits go; one that is too great becomes another, whose text is another too
-abbrev pub numberIn : List ℕ → ℕ
-numberIn bs = valueFrom 0 (leading 10 bs) % 2 ^ 32
+-- the number that bs begins with: its first ten digits, modulo 2 to the power 32. A number that this cuts or wraps does not pass for another:
+-- numberLine compares the text of what was found with bs.
+abbrev pub leadingNumber : List ℕ → ℕ
+leadingNumber bs = valueFrom 0 (leading 10 bs) % 2 ^ 32
 
--- the line of a name and a number that bs begins with: the number, and the line's length; 0 and 0 where there is none. It is the line of
--- the number that stands behind the name: that any such line is found is a law (proofs/Found, line-found).
+-- the line of a name and a number that bs begins with: the number, and the line's length; 0 and 0 where there is none
 unfoldable pub numberLine : List ℕ → List ℕ → Numeral
 numberLine name bs =
-    let n = numberIn (drop (length name) bs) in
+    let n = leadingNumber (drop (length name) bs) in
     cond (begins (numbered name n) bs) (record { value = n; length = length (numbered name n) }) (record { value = 0; length = 0 })

@@ -1,10 +1,10 @@
 // Words, decimal numbers and lines as bytes: written at the front of an output, and found at the front of some bytes.
 ghost use mathlib.Core.Path.{_≡_};
-ghost use mathlib.Core.List.{[], _∷_, _++_};
+ghost use mathlib.Core.List.{[], _++_};
 ghost use Prim.Native.Nat.{_+_, _-_, _^_, _≤_};
 ghost use lib.ListN.{length};
 ghost use Rattle.answers.specs.Answers.{over};
-ghost use Rattle.text.specs.Text.{places, decimal, numbered, fitted, begins, leading, valueFrom, numberIn, numberLine};
+ghost use Rattle.text.specs.Text.{places, decimal, ended, numbered, fitted, begins, leading, valueFrom, leadingNumber, numberLine};
 
 // The word at the front of `out`, where there is room for it. Answers its length, and 0 where there is none.
 pub fn put(word: &[u8], out: &mut [u8]) -> usize
@@ -62,8 +62,8 @@ pub fn put_decimal(x: u32, out: &mut [u8]) -> usize
 // A line with room for it: the name, the value, and byte 10.
 fn spell_line(name: &[u8], value: &[u8], out: &mut [u8]) -> usize
     requires { ⌜ length (now name) + length (now value) + 1 ≤ length (now out) ⌝ }
-    ensures { λ r. ⌜ r ≡ length (now (name .entry) ++ (now (value .entry) ++ (10 ∷ []))) ⌝ }
-    ensures { λ r. ⌜ now (out .exit) ≡ over (now (name .entry) ++ (now (value .entry) ++ (10 ∷ []))) (now (out .entry)) ⌝ }
+    ensures { λ r. ⌜ r ≡ length (now (name .entry) ++ ended (now (value .entry)) []) ⌝ }
+    ensures { λ r. ⌜ now (out .exit) ≡ over (now (name .entry) ++ ended (now (value .entry)) []) (now (out .entry)) ⌝ }
 {
     let named = put(name, &mut out[..]);
     let length = named + put(value, &mut out[named..]);
@@ -73,8 +73,8 @@ fn spell_line(name: &[u8], value: &[u8], out: &mut [u8]) -> usize
 
 // The line of a name and a word behind it, at the front of `out`, where there is room for it. Answers its length, and 0 where there is none.
 pub fn put_line(name: &[u8], value: &[u8], out: &mut [u8]) -> usize
-    ensures { λ r. ⌜ r ≡ length (fitted (now (name .entry) ++ (now (value .entry) ++ (10 ∷ []))) (now (out .entry))) ⌝ }
-    ensures { λ r. ⌜ now (out .exit) ≡ over (fitted (now (name .entry) ++ (now (value .entry) ++ (10 ∷ []))) (now (out .entry))) (now (out .entry)) ⌝ }
+    ensures { λ r. ⌜ r ≡ length (fitted (now (name .entry) ++ ended (now (value .entry)) []) (now (out .entry))) ⌝ }
+    ensures { λ r. ⌜ now (out .exit) ≡ over (fitted (now (name .entry) ++ ended (now (value .entry)) []) (now (out .entry))) (now (out .entry)) ⌝ }
 {
     if out.len() < name.len() {
         return 0;
@@ -136,8 +136,8 @@ fn ten_digits(bytes: &[u8]) -> usize
 }
 
 // That number modulo 4,294,967,296. One that is too great becomes another, whose text is another too.
-fn number(bytes: &[u8]) -> u32
-    ensures { λ r. ⌜ r ≡ numberIn (now (bytes .entry)) ⌝ }
+fn leading_number(bytes: &[u8]) -> u32
+    ensures { λ r. ⌜ r ≡ leadingNumber (now (bytes .entry)) ⌝ }
 {
     (ten_digits(bytes) % 4294967296) as u32
 }
@@ -159,7 +159,7 @@ pub fn number_line(name: &[u8], bytes: &[u8]) -> Numeral
         };
     }
     let named = name.len();
-    let value = number(&bytes[named..]);
+    let value = leading_number(&bytes[named..]);
     let mut digits = [0u8; 11];
     let length = put_number_line(b"", value, &mut digits);
     if !begins(&digits[..length], &bytes[named..]) {

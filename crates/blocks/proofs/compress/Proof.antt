@@ -14,12 +14,6 @@ use borrow.Author.Needs.{needs}
 use Rattle.blocks.proofs.compress.Statement.{statement}
 use Rattle.blocks.proofs.compress.Tie as tie
 
-yes-accepted : (c : tie.Else1) → accepted (c .before .before .pack-refusal .result) ≡ true
-yes-accepted c = granted (c .before .is-accepted .ensures) (c .if1 .left)
-
-able : (c : tie.Else1) → Packable (c .before .before .before .before .before .args .lanes) (c .before .before .before .before .before .args .mode) (c .before .before .before .before .before .args .decompressed .now) (length (c .before .before .before .before .before .args .compressed .now)) (c .before .before .before .before .before .args .width)
-able c = pack-exactly _ _ _ _ _ .0 (rw (c .before .before .pack-refusal .ensures) at (yes-accepted c))
-
 returns : tie.Need-returns
 returns c =
     let t = c .before in
@@ -27,6 +21,12 @@ returns c =
     let h = denied (t .before .is-accepted .ensures) (t .if1 .taken) in
     let a = t .before .before .before .before .before .args in
     (refused k h (c .refused .ensures) _, untouched k h (packed (a .lanes) (a .width) (entries (a .mode) (at (a .decompressed .now)))) _)
+
+yes-accepted : (c : tie.Else1) → accepted (c .before .before .pack-refusal .result) ≡ true
+yes-accepted c = granted (c .before .is-accepted .ensures) (c .if1 .left)
+
+able : (c : tie.Else1) → Packable (c .before .before .before .before .before .args .lanes) (c .before .before .before .before .before .args .mode) (c .before .before .before .before .before .args .decompressed .now) (length (c .before .before .before .before .before .args .compressed .now)) (c .before .before .before .before .before .args .width)
+able c = pack-exactly _ _ _ _ _ .0 (rw (c .before .before .pack-refusal .ensures) at (yes-accepted c))
 
 pack-requires : tie.Need-pack-requires
 pack-requires c κs =

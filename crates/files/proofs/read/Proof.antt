@@ -33,7 +33,7 @@ returns-2 c =
     let r = c .before .before in
     let e = r .before .before .before .before in
     let s = start e in
-    good-file (s .args .file .now) _ (e .before .before .find-file .ensures) (good e) (s .args .values .now) (part-told (s .args .file .now) _ (e .before .before .find-file .ensures) (good e)) (r .read .ensures .0) (r .read .ensures .1)
+    good-file (s .args .file .now) _ (e .before .before .find-file .ensures) (good e) (s .args .values .now) (part-told (s .args .file .now) _ (e .before .before .find-file .ensures) (good e)) (r .read .ensures .0) (r .read .ensures .1 .0)
 
 pub read-spec : {M : Type 1} → statement M
 read-spec =

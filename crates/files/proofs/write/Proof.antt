@@ -95,7 +95,7 @@ same-length c =
     let e = p .before .before in
     let s = e .before .before .before .before .before in
     file-kept (s .args .lanes) (s .args .mode) (s .args .values .now) (s .args .file .now) (e .before .before .measure .result) (e .before .before .measure .ensures) (ok e) _ (p .put-header .ensures .0) (l .if2 .left) (p .put-header .last .1 .0) (q .put .last .1 .0) (p .put-header .ensures .1) (q .put .ensures .1)
-    (w .write .last .1 .1 .1 .0) (w .write .ensures .1)
+    (w .write .last .1 .1 .1 .0) (w .write .ensures .1 .0)
 
 returns-3 : tie.Need-returns-3
 returns-3 c =
@@ -106,7 +106,7 @@ returns-3 c =
     let e = p .before .before in
     let s = e .before .before .before .before .before in
     file-done (s .args .lanes) (s .args .mode) (s .args .values .now) (s .args .file .now) (e .before .before .measure .result) (e .before .before .measure .ensures) (ok e) _ (p .put-header .ensures .0) (l .if2 .left) (p .put-header .last .1 .0) (q .put .last .1 .0) (p .put-header .ensures .1) (q .put .ensures .1)
-    (w .write .last .1 .1 .1 .0) (w .write .ensures .1) (c .accepted .ensures)
+    (w .write .last .1 .1 .1 .0) (w .write .ensures .1 .0) (c .accepted .ensures)
 
 pub write-spec : {M : Type 1} → statement M
 write-spec =

@@ -1,13 +1,13 @@
 -- The lines of a header that some bytes begin with, and how long they are: 0 where they are not there. Each is looked for where the one
--- before ends. Nobody need believe this: what is found is there, and what some header writes is found (proofs/Theorems, found-exactly,
--- settings-exactly).
+-- before ends. Nobody need believe this: what is found is there, and what some header writes is found (Claims: FoundExactly, FoundBack,
+-- SettingsExactly, SettingsBack).
 use mathlib.Core.Bool.{Bool, not, _&&_, cond}
 use mathlib.Core.List.{List, [], _∷_}
 use Prim.Native.Nat.{ℕ, _+_}
 use lib.Dec.{eqb}
 use lib.ListN.{length, drop}
 use Rattle.layout.specs.Layout.{isLanes}
-use Rattle.answers.specs.declared.Refusal.the-variants.{Accepted, BadHeader}
+use Rattle.answers.specs.declared.Refusal.the-variants.{Accepted}
 use Rattle.answers.specs.Refusals.{accepted}
 use Rattle.modes.specs.declared.Initial.{Initial}
 use Rattle.modes.specs.declared.Initial.the-variants.{None, Number}
@@ -18,10 +18,10 @@ use Rattle.text.specs.declared.Numeral.{Numeral}
 use Rattle.text.specs.Text.{word, decimal, line, begins, numberLine}
 use Rattle.files.specs.declared.finding.ModeLines.{ModeLines}
 use Rattle.files.specs.declared.finding.SizeLines.{SizeLines}
-use Rattle.files.specs.declared.heading.Header.{Header}
 use Rattle.files.specs.declared.SettingsFound.{SettingsFound}
 use Rattle.files.specs.declared.Found.{Found}
 use Rattle.files.specs.Header.{modeWord, firstText}
+use Rattle.files.specs.Beside.{noSettings, nothingFound}
 
 -- whether something is there
 abbrev pub some : ℕ → Bool
@@ -63,9 +63,6 @@ modeLinesIn bs =
     (record { mode = Plain; length = 0 }))))
 
 -- the lanes line, and those behind it
-abbrev pub noSettings : SettingsFound
-noSettings = record { refusal = BadHeader; lanes = 0; mode = Plain; length = 0 }
-
 unfoldable pub settingsIn : List ℕ → SettingsFound
 settingsIn bs =
     let l = numberLine (word "lanes=") bs in
@@ -84,12 +81,6 @@ sizeLinesIn bs =
     cond (some (c .length) && (some (b .length) && begins (10 ∷ []) (drop end bs))) (record { count = c .value; bytes = b .value; length = end + 1 }) (record { count = 0; bytes = 0; length = 0 })
 
 -- all of them
-abbrev pub noHeader : Header
-noHeader = record { lanes = 0; mode = Plain; count = 0; bytes = 0 }
-
-abbrev pub nothingFound : Found
-nothingFound = record { refusal = BadHeader; header = noHeader; start = 0 }
-
 unfoldable pub headerFound : List ℕ → Found
 headerFound bs =
     let s = settingsIn bs in

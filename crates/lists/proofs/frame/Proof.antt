@@ -40,14 +40,14 @@ accepted-there c = granted (c .before .is-accepted .ensures) (c .if2 .left)
 there : (c : tie.Else2) → Framed (c .before .before .before .before .before .before .args .lanes) (c .before .before .before .before .before .before .args .bytes .now)
 there c = framed _ _ (ap accepted (sym (c .before .before .frame-refusal .ensures)) ∙ accepted-there c)
 
-shared-slice-read-widen : tie.Need-shared-slice-read-widen
-shared-slice-read-widen c = omega (arith, there (c .before) .some)
+shared-slice-read-wide : tie.Need-shared-slice-read-wide
+shared-slice-read-wide c = omega (arith, there (c .before) .some)
 
 block-length-requires : tie.Need-block-length-requires
 block-length-requires c κs =
     let e = c .before .before in
     let g = good (e .before .before .before) in
-    (g, narrow-there _ g _ (there e) _ (c .widen .ensures .0))
+    (g, narrow-there _ g _ (there e) _ (c .wide .ensures .0))
 
 returns-3 : tie.Need-returns-3
 returns-3 c =
@@ -57,7 +57,7 @@ returns-3 c =
     let f = e .before .before in
     let a = f .before .before .before .before .args in
     let told : f .frame-refusal .result ≡ refuse (not (isLanes (a .lanes))) BadLanes (frameRefusal (a .lanes) (a .bytes .now)) = rw (good (f .before)) (f .frame-refusal .ensures) in
-    answered told (accepted-there e) (c .accepted .ensures) (l .block-length .ensures ∙ ap (λ (t : ℕ). 1 + payloadSize (a .lanes) t) (w .widen .ensures .0))
+    answered told (accepted-there e) (c .accepted .ensures) (l .block-length .ensures ∙ ap (λ (t : ℕ). 1 + payloadSize (a .lanes) t) (w .wide .ensures .0))
 
 pub frame-spec : {M : Type 1} → statement M
 frame-spec =
@@ -70,7 +70,7 @@ frame-spec =
     (search needs)
     (search needs)
     returns-2
-    shared-slice-read-widen
+    shared-slice-read-wide
     (search needs)
     block-length-requires
     (search needs)

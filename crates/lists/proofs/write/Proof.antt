@@ -10,7 +10,8 @@ use Rattle.answers.proofs.Refusals.{accepted-is, first-stops}
 use Rattle.answers.proofs.Answers.{refused, untouched, answered, overwritten}
 use Rattle.bodies.specs.Body.{bodyOf}
 use Rattle.lists.specs.Calls.{measureRefusal, writeRefusal}
-use Rattle.lists.proofs.Accepts.{Writable, measure-exactly, write-exactly}
+use Rattle.lists.proofs.Accepts.{Writable, measure-exactly, writing-parts, write-exactly}
+use Rattle.lists.proofs.Demand.{demand-writes}
 use borrow.Author.Needs.{needs}
 use Rattle.lists.proofs.write.Statement.{statement}
 use Rattle.lists.proofs.write.Tie as tie
@@ -22,8 +23,10 @@ returns c =
     let a = r .before .before .before .args in
     let no = denied (t .before .is-accepted .ensures) (t .if1 .taken) in
     let told : r .measure-refusal .result ≡ writeRefusal (a .lanes) (a .mode) (a .values .now) (length (a .body .now)) =
-    r .measure-refusal .ensures ∙ sym (first-stops (measureRefusal (a .lanes) (a .mode) (a .values .now)) _ (ap accepted (sym (r .measure-refusal .ensures)) ∙ no)) in
-    (refused told no (c .refused .ensures) _, untouched told no (bodyOf (a .lanes) (a .mode) (a .values .now)) _)
+    r .measure-refusal .ensures ∙ sym (writing-parts (a .lanes) (a .mode) (a .values .now) (length (bodyOf (a .lanes) (a .mode) (a .values .now))) (length (a .body .now)) ∙ first-stops (measureRefusal (a .lanes) (a .mode) (a .values .now)) _ (ap accepted (sym (r .measure-refusal .ensures)) ∙ no)) in
+    let p = refused told no (c .refused .ensures) _ in
+    let q = untouched told no (bodyOf (a .lanes) (a .mode) (a .values .now)) (a .body .now) in
+    (p, (q, demand-writes (a .lanes) (a .mode) (a .values .now) (a .body .now) p q))
 
 -- nothing is wrong with the values
 good : (c : tie.Else1) → accepted (measureRefusal (c .before .before .before .before .before .args .lanes) (c .before .before .before .before .before .args .mode) (c .before .before .before .before .before .args .values .now)) ≡ true
@@ -40,8 +43,10 @@ returns-2 c =
     let e = t .before .before in
     let a = e .before .before .before .before .before .args in
     let told : NoRoom ≡ writeRefusal (a .lanes) (a .mode) (a .values .now) (length (a .body .now)) =
-    rw (good e, lt-ltb (length (a .body .now)) _ (leb-false _ (length (a .body .now)) (denied (t .before .has-room .ensures) (t .if2 .taken)))) in
-    (refused told refl (c .refused2 .ensures) _, untouched told refl (bodyOf (a .lanes) (a .mode) (a .values .now)) _)
+    rw (writing-parts (a .lanes) (a .mode) (a .values .now) (length (bodyOf (a .lanes) (a .mode) (a .values .now))) (length (a .body .now)), good e, lt-ltb (length (a .body .now)) _ (leb-false _ (length (a .body .now)) (denied (t .before .has-room .ensures) (t .if2 .taken)))) in
+    let p = refused told refl (c .refused2 .ensures) _ in
+    let q = untouched told refl (bodyOf (a .lanes) (a .mode) (a .values .now)) (a .body .now) in
+    (p, (q, demand-writes (a .lanes) (a .mode) (a .values .now) (a .body .now) p q))
 
 able : (c : tie.Else2) → Writable (c .before .before .before .before .before .before .before .args .lanes) (c .before .before .before .before .before .before .before .args .mode) (c .before .before .before .before .before .before .before .args .values .now) (length (c .before .before .before .before .before .before .before .args .body .now))
 able c = record { list = measure-exactly _ _ _ .0 (good (c .before .before)); enough = leb-true _ _ (granted (c .before .has-room .ensures) (c .if2 .left)) }
@@ -57,7 +62,9 @@ returns-3 c =
     let e = d .before .before in
     let a = e .before .before .before .before .before .before .before .args in
     let yes = accepted-is _ (write-exactly (a .lanes) (a .mode) (a .values .now) (length (a .body .now)) .1 (able e)) in
-    (answered (sym yes) refl (c .accepted .ensures) (d .store-body .ensures .0), overwritten (sym yes) refl (bodyOf (a .lanes) (a .mode) (a .values .now)) (a .body .now) (d .store-body .ensures .1))
+    let p = answered (sym yes) refl (c .accepted .ensures) (d .store-body .ensures .0) in
+    let q = overwritten (sym yes) refl (bodyOf (a .lanes) (a .mode) (a .values .now)) (a .body .now) (d .store-body .ensures .1) in
+    (p, (q, demand-writes (a .lanes) (a .mode) (a .values .now) (a .body .now) p q))
 
 pub write-spec : {M : Type 1} → statement M
 write-spec =

@@ -1,9 +1,5 @@
 -- The file, or nothing where there is no room for it; what the values are refused for is the line.
-use mathlib.Core.Path.{_≡_, sym, _∙_, ap}
-use mathlib.Core.List.{List}
-use Prim.Native.Nat.{ℕ}
-use lib.ListN.{length}
-use Rattle.programs.specs.Programs.{refusedLine, outAnswer, outLeft}
+use mathlib.Core.Path.{sym, _∙_}
 use Rattle.programs.proofs.Outcomes.{out-is, file-out, file-without-room, list-refused}
 use borrow.Author.Needs.{needs}
 use Rattle.programs.proofs.hand_out_file.Statement.{statement}

@@ -16,13 +16,6 @@ use borrow.Author.Needs.{needs}
 use Rattle.programs.proofs.list_to_text.Statement.{statement}
 use Rattle.programs.proofs.list_to_text.Tie as tie
 
-returns : tie.Need-returns
-returns c =
-    let r = c .before .before in
-    let t = r .before .before in
-    let s = t .before .before .before in
-    out-whole (file-too-long (s .args .file .now) (t .if1 .taken)) (s .args .out .now) (r .refuse .ensures)
-
 returns-2 : tie.Need-returns-2
 returns-2 c =
     let r = c .before .before in
@@ -71,6 +64,13 @@ returns-3 c =
     let g = e .before .before .before .before .before in
     let s = g .before .before .before in
     out-whole (ap valueLines (told e .1) ∙ file-accepted (s .args .file .now) (g .if1 .left) (good e)) (s .args .out .now) (h .hand-out-values .ensures)
+
+returns : tie.Need-returns
+returns c =
+    let r = c .before .before in
+    let t = r .before .before in
+    let s = t .before .before .before in
+    out-whole (file-too-long (s .args .file .now) (t .if1 .taken)) (s .args .out .now) (r .refuse .ensures)
 
 pub list-to-text-spec : {M : Type 1} → statement M
 list-to-text-spec =

@@ -71,6 +71,15 @@ returns-3 c =
     let s = f .before .before .before in
     out-whole (not-lines (s .args .text .now) (f .if1 .left) (set e) (denied (told v .sound) (t .if3 .taken))) (s .args .out .now) (r .refuse3 .ensures)
 
+values-within : (c : tie.Else4) → c .before .before .before .before .read-values .result .count ≤ length (c .before .before .before .before .read-values .last .1 .0)
+values-within c = omega (arith, c .if4 .left, c .before .before .before .before .read-values .kept)
+
+array-share-prefix-values : tie.Need-array-share-prefix-values
+array-share-prefix-values c = values-within c
+
+slice-aggregate-hand-out-file : tie.Need-slice-aggregate-hand-out-file
+slice-aggregate-hand-out-file c = sym (length-take-le _ (c .before .before .before .before .before .read-values .last .1 .0) (values-within (c .before)))
+
 returns-4 : tie.Need-returns-4
 returns-4 c =
     let r = c .before .before in
@@ -81,15 +90,6 @@ returns-4 c =
     let f = e .before .before .before in
     let s = f .before .before .before in
     out-whole (too-many (s .args .text .now) (f .if1 .left) (set e) (granted (told v .sound) (n .if3 .left)) (rw (← told v .count) (t .if4 .taken))) (s .args .out .now) (r .refuse4 .ensures)
-
-values-within : (c : tie.Else4) → c .before .before .before .before .read-values .result .count ≤ length (c .before .before .before .before .read-values .last .1 .0)
-values-within c = omega (arith, c .if4 .left, c .before .before .before .before .read-values .kept)
-
-array-share-prefix-values : tie.Need-array-share-prefix-values
-array-share-prefix-values c = values-within c
-
-slice-aggregate-hand-out-file : tie.Need-slice-aggregate-hand-out-file
-slice-aggregate-hand-out-file c = sym (length-take-le _ (c .before .before .before .before .before .read-values .last .1 .0) (values-within (c .before)))
 
 returns-5 : tie.Need-returns-5
 returns-5 c =

@@ -1,5 +1,5 @@
 -- Another kind is 12 with nothing written; else the call's own answer and output, in the kind's mode.
-use mathlib.Core.Path.{_≡_, refl, _∙_, ap}
+use mathlib.Core.Path.{refl, _∙_, ap}
 use Rattle.answers.proofs.Guards.{denied, granted}
 use Rattle.sisalshed.specs.Crossing.{crossed}
 use borrow.Author.Needs.{needs}

@@ -1,5 +1,4 @@
 -- What the header call hands out, field by field.
-use mathlib.Core.Path.{_≡_}
 use borrow.Author.Needs.{needs}
 use Rattle.sisalshed.proofs.sisalshed_header.Statement.{statement}
 use Rattle.sisalshed.proofs.sisalshed_header.Tie as tie

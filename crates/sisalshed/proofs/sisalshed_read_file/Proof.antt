@@ -1,5 +1,5 @@
 -- The call's own answer and output.
-use mathlib.Core.Path.{_≡_, _∙_, ap}
+use mathlib.Core.Path.{_∙_, ap}
 use Rattle.sisalshed.specs.Crossing.{crossed}
 use borrow.Author.Needs.{needs}
 use Rattle.sisalshed.proofs.sisalshed_read_file.Statement.{statement}

@@ -1,5 +1,5 @@
 -- Another kind is 12 with nothing written; else the call's own answer and output, in the kind's mode.
-use mathlib.Core.Path.{_≡_, refl, _∙_, ap}
+use mathlib.Core.Path.{refl, _∙_, ap}
 use Rattle.answers.proofs.Guards.{denied, granted}
 use Rattle.sisalshed.specs.Crossing.{crossed}
 use borrow.Author.Needs.{needs}
@@ -15,7 +15,7 @@ returns-2 c =
     let k = c .before .before .before .before .before in
     let e = k .before in
     let call = c .before .before .before .read .ensures in
-    rw (granted (e .before .is-kind .ensures) (e .if1 .left), ← k .mode-of .ensures) (c .cross .ensures ∙ ap crossed (call .0), call .1)
+    rw (granted (e .before .is-kind .ensures) (e .if1 .left), ← k .mode-of .ensures) (c .cross .ensures ∙ ap crossed (call .0), call .1 .0)
 
 pub sisalshed-read-list-spec : {M : Type 1} → statement M
 sisalshed-read-list-spec = tie.close (tie.spec (search needs) (search needs) returns (search needs) (search needs) (search needs) (search needs) returns-2)

@@ -1,16 +1,15 @@
 -- The first i bytes are there.
-use mathlib.Core.Path.{_≡_, refl, sym, _∙_, ap}
-use mathlib.Core.List.{[]}
-use Prim.Native.Nat.{ℕ, _+_, _*_, _-_, _/_, _≤_, min}
+use mathlib.Core.Path.{_≡_, sym, _∙_, ap}
+use Prim.Native.Nat.{ℕ, _+_, _*_, _-_, _≤_}
 use native.Mathlib.Numerals.{add-one}
 use native.Mathlib.Omega.{arith}
 use lib.ListN.{length}
 use lib.Seq.{length-take-le}
-use Rattle.layout.specs.Layout.{at, table}
+use Rattle.layout.specs.Layout.{table}
 use Rattle.answers.specs.Answers.{over}
 use Rattle.answers.proofs.Fronts.{Front, front-none, front-length, front-put}
 use Rattle.layout.proofs.Tables.{length-table}
-use Rattle.tables.specs.Tables.{digitOf, hexByte}
+use Rattle.tables.specs.Tables.{hexByte}
 use borrow.Author.Needs.{needs}
 use Rattle.tables.proofs.decode.Statement.{statement}
 use Rattle.tables.proofs.decode.Tie as tie

@@ -1,6 +1,6 @@
 -- The rest goes on top of the sum so far.
 use mathlib.Core.Path.{_≡_, refl, sym, _∙_, ap}
-use Prim.Native.Nat.{ℕ, _+_, _*_, _-_, _%_}
+use Prim.Native.Nat.{ℕ, _+_, _-_}
 use lib.ListN.{length, drop}
 use Rattle.tables.specs.Tables.{checksum, sumFrom}
 use Rattle.tables.proofs.Going.{sum-more, sum-end}

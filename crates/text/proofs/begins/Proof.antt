@@ -24,19 +24,19 @@ loop-holds c = refl
 shared-slice-read-if2-2 : tie.Need-shared-slice-read-if2-2 Inv-loop μ-loop
 shared-slice-read-if2-2 c = omega (arith, c .before .before .loop-test .taken, c .before .before .before .before .if1 .left)
 
-returns-2 : tie.Need-returns-2 Inv-loop μ-loop
-returns-2 c =
-    let l = c .before .before .before .before in
-    let a = l .before .before .args in
-    let t = c .before .before .before .loop-test .taken in
-    sym (l .loop .inv ∙ begins-stop (a .text .now) (a .bytes .now) (l .loop .i) t (omega (arith, t, l .before .if1 .left)) (c .if2 .taken))
-
 loop-again : tie.Need-loop-again Inv-loop μ-loop
 loop-again c =
     let l = c .before .before .before .before in
     let a = l .before .before .args in
     let t = c .before .before .before .loop-test .taken in
     l .loop .inv ∙ begins-step (a .text .now) (a .bytes .now) (l .loop .i) t (omega (arith, t, l .before .if1 .left)) (c .if2 .left)
+
+returns-2 : tie.Need-returns-2 Inv-loop μ-loop
+returns-2 c =
+    let l = c .before .before .before .before in
+    let a = l .before .before .args in
+    let t = c .before .before .before .loop-test .taken in
+    sym (l .loop .inv ∙ begins-stop (a .text .now) (a .bytes .now) (l .loop .i) t (omega (arith, t, l .before .if1 .left)) (c .if2 .taken))
 
 returns-3 : tie.Need-returns-3 Inv-loop μ-loop
 returns-3 c =

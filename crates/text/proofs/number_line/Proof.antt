@@ -10,7 +10,7 @@ use Rattle.answers.proofs.Guards.{denied, granted}
 use Rattle.answers.specs.Answers.{over}
 use Rattle.answers.proofs.Parts.{part-is}
 use Rattle.answers.proofs.Fronts.{take-over}
-use Rattle.text.specs.Text.{numbered, begins, numberIn}
+use Rattle.text.specs.Text.{numbered, begins, leadingNumber}
 use Rattle.text.proofs.Lines.{put-whole, number-line-short}
 use Rattle.text.proofs.Beginnings.{begins-within}
 use Rattle.text.proofs.Found.{no-name, no-number, both}
@@ -33,27 +33,27 @@ named e = granted (e .before .begins .ensures) (e .if1 .left)
 within : (e : tie.Else1) → length (start e .args .name .now) ≤ length (start e .args .bytes .now)
 within e = begins-within (start e .args .name .now) (start e .args .bytes .now) (named e)
 
-sub-number : tie.Need-sub-number
-sub-number c = within c
+sub-leading-number : tie.Need-sub-leading-number
+sub-leading-number c = within c
 
-part-number-start : tie.Need-part-number-start
-part-number-start c = within c
+part-leading-number-start : tie.Need-part-leading-number-start
+part-leading-number-start c = within c
 
 -- the number, and its line
-abbrev behind : tie.After-number → tie.Else1
+abbrev behind : tie.After-leading-number → tie.Else1
 behind n = n .before .before
 
-valued : (n : tie.After-number) → n .number .result ≡ numberIn (drop (length (start (behind n) .args .name .now)) (start (behind n) .args .bytes .now))
-valued n = n .number .ensures ∙ ap numberIn (part-is (length (start (behind n) .args .name .now)) (start (behind n) .args .bytes .now))
+valued : (n : tie.After-leading-number) → n .leading-number .result ≡ leadingNumber (drop (length (start (behind n) .args .name .now)) (start (behind n) .args .bytes .now))
+valued n = n .leading-number .ensures ∙ ap leadingNumber (part-is (length (start (behind n) .args .name .now)) (start (behind n) .args .bytes .now))
 
-abbrev read : tie.After-put-number-line → tie.After-number
+abbrev read : tie.After-put-number-line → tie.After-leading-number
 read p = p .before .before .before
 
-written : (p : tie.After-put-number-line) → (p .put-number-line .result ≡ length (numbered [] (read p .number .result))) × (p .put-number-line .last .1 .1 .0 ≡ over (numbered [] (read p .number .result)) (replicate 11 0))
-written p = put-whole {t₀ = numbered [] (read p .number .result)} (replicate 11 0) refl (number-line-short [] (read p .number .result)) (p .put-number-line .ensures)
+written : (p : tie.After-put-number-line) → (p .put-number-line .result ≡ length (numbered [] (read p .leading-number .result))) × (p .put-number-line .last .1 .1 .0 ≡ over (numbered [] (read p .leading-number .result)) (replicate 11 0))
+written p = put-whole {t₀ = numbered [] (read p .leading-number .result)} (replicate 11 0) refl (number-line-short [] (read p .leading-number .result)) (p .put-number-line .ensures)
 
 short : (p : tie.After-put-number-line) → p .put-number-line .result ≤ length (p .put-number-line .last .1 .1 .0)
-short p = omega (arith, written p .0, number-line-short [] (read p .number .result), p .put-number-line .kept)
+short p = omega (arith, written p .0, number-line-short [] (read p .leading-number .result), p .put-number-line .kept)
 
 array-share-prefix-digits : tie.Need-array-share-prefix-digits
 array-share-prefix-digits c = short (c .before)
@@ -71,11 +71,11 @@ part-begins-start c = within (behind (read (c .before .before)))
 abbrev put : tie.After-begins2 → tie.After-put-number-line
 put b = b .before .before .before .before
 
-told : (b : tie.After-begins2) → b .begins2 .result ≡ begins (numbered [] (read (put b) .number .result)) (drop (length (start (behind (read (put b))) .args .name .now)) (start (behind (read (put b))) .args .bytes .now))
+told : (b : tie.After-begins2) → b .begins2 .result ≡ begins (numbered [] (read (put b) .leading-number .result)) (drop (length (start (behind (read (put b))) .args .name .now)) (start (behind (read (put b))) .args .bytes .now))
 told b =
     let p = put b in
     let s = start (behind (read p)) in
-    let l = numbered [] (read p .number .result) in
+    let l = numbered [] (read p .leading-number .result) in
     let t : take (p .put-number-line .result) (p .put-number-line .last .1 .1 .0) ≡ l = ap (take (p .put-number-line .result)) (written p .1) ∙ take-over (p .put-number-line .result) l (replicate 11 0) (sym (written p .0)) in
     b .begins2 .ensures ∙ rw (t, part-is (length (s .args .name .now)) (s .args .bytes .now))
 
@@ -90,7 +90,7 @@ add-t11 c =
     let p = put (c .before) in
     let s = start (behind (read p)) in
     let rest = drop (length (s .args .name .now)) (s .args .bytes .now) in
-    omega (arith, written p .0, within (behind (read p)), length-drop (length (s .args .name .now)) (s .args .bytes .now), begins-within (numbered [] (read p .number .result)) rest (granted (told (c .before)) (c .if2 .left)))
+    omega (arith, written p .0, within (behind (read p)), length-drop (length (s .args .name .now)) (s .args .bytes .now), begins-within (numbered [] (read p .leading-number .result)) rest (granted (told (c .before)) (c .if2 .left)))
 
 returns-3 : tie.Need-returns-3
 returns-3 c =
@@ -105,8 +105,8 @@ number-line-spec =
     (tie.spec
     (search needs)
     returns
-    sub-number
-    part-number-start
+    sub-leading-number
+    part-leading-number-start
     (search needs)
     (search needs)
     (search needs)

@@ -12,7 +12,7 @@ use Rattle.modes.specs.Entries.{firstOf, values}
 use Rattle.modes.proofs.Steps.{values-row, last-start, last-next}
 use Rattle.blocks.specs.Calls.{unpacked}
 use Rattle.blocks.specs.kernel.Places.{RowOf}
-use Rattle.blocks.specs.kernel.Registers.{Holds, bitsLeft}
+use Rattle.blocks.specs.kernel.Registers.{HoldsBits, bitsLeft}
 use Rattle.blocks.proofs.Parts.{row-back}
 use Rattle.blocks.proofs.Unpacking.{Unpacking, held-none, unpack-start, unpack-more, unpack-end}
 use borrow.Author.Needs.{needs}
@@ -24,7 +24,7 @@ abbrev Inv-loop : tie.InvT-loop
 Inv-loop lanes mode bytes out₀ width current₀ held₀ row₀ out current held row =
     (row ≤ 32)
     × (lastLane lanes current ≡ before (firstOf mode) (values mode (payloadEntry lanes width bytes)) (row * lanes))
-    × Holds lanes (byteBits lanes bytes) (row * width) (bitsLeft width row) held
+    × HoldsBits lanes (byteBits lanes bytes) (row * width) (bitsLeft width row) held
     × Unpacking lanes (values mode (payloadEntry lanes width bytes)) out₀ row out
 
 abbrev μ-loop : tie.MeasureT-loop

@@ -15,8 +15,8 @@ sub-decompress c = omega (arith, framed _ _ (c .before .before .pre .1) .some)
 part-decompress-start : tie.Need-part-decompress-start
 part-decompress-start c = omega (arith, framed _ _ (c .before .before .pre .1) .some)
 
-shared-slice-read-widen : tie.Need-shared-slice-read-widen
-shared-slice-read-widen c = omega (arith, framed _ _ (c .before .before .before .before .before .pre .1) .some)
+shared-slice-read-wide : tie.Need-shared-slice-read-wide
+shared-slice-read-wide c = omega (arith, framed _ _ (c .before .before .before .before .before .pre .1) .some)
 
 mul-after : tie.Need-mul-after
 mul-after c = omega (arith, lanes-of _ (c .before .before .before .before .before .before .before .before .before .pre .0))
@@ -36,7 +36,7 @@ returns c =
     let w = d .before in
     let s = w .before .before .before .before .before .before in
     let a = s .args in
-    let there = d .decompress .ensures .1 ∙ unpack-is (a .lanes) (s .pre .0) (a .bytes .now) (framed _ _ (s .pre .1)) _ (w .widen .ensures .0) (a .mode) (a .values .now) (s .pre .2) in
+    let there = d .decompress .ensures .1 ∙ unpack-is (a .lanes) (s .pre .0) (a .bytes .now) (framed _ _ (s .pre .1)) _ (w .wide .ensures .0) (a .mode) (a .values .now) (s .pre .2) in
     (there, c .after .ensures ∙ last-value (a .lanes) (a .mode) (a .bytes .now) (lanes-of _ (s .pre .0) .0) (d .decompress .last .1 .1 .1 .0) (a .values .now) there)
 
 pub fetch-block-spec : {M : Type 1} → statement M
@@ -46,7 +46,7 @@ fetch-block-spec =
     sub-decompress
     part-decompress-start
     (search needs)
-    shared-slice-read-widen
+    shared-slice-read-wide
     (search needs)
     (search needs)
     mul-after

@@ -53,8 +53,8 @@ fetch-block-requires c κs =
     let g = lanes-of _ (p .0) in
     (p .0, next-framed (l .loop .inv) (g .0) (p .2) (omega (arith, g .0, i .loop-test .taken)), omega (arith, p .2, long l, i .loop-test .taken, part-length (l .loop .done) (l .loop .values)))
 
-shared-slice-read-widen : tie.Need-shared-slice-read-widen Inv-loop μ-loop
-shared-slice-read-widen c =
+shared-slice-read-wide : tie.Need-shared-slice-read-wide Inv-loop μ-loop
+shared-slice-read-wide c =
     let i = c .before .before .before .before .before .before in
     let l = i .before in
     let p = l .before .before .before .pre in
@@ -67,7 +67,7 @@ block-length-requires c κs =
     let l = i .before in
     let p = l .before .before .before .pre in
     let g = lanes-of _ (p .0) in
-    (p .0, next-narrow (l .loop .inv) (g .0) (p .2) (omega (arith, g .0, i .loop-test .taken)) _ (c .widen .ensures .0))
+    (p .0, next-narrow (l .loop .inv) (g .0) (p .2) (omega (arith, g .0, i .loop-test .taken)) _ (c .wide .ensures .0))
 
 add-place : tie.Need-add-place Inv-loop μ-loop
 add-place c =
@@ -75,7 +75,7 @@ add-place c =
     let l = i .before in
     let s = l .before .before .before in
     let g = lanes-of _ (s .pre .0) in
-    omega (arith, s .good .1 .1 .1 .0 .0, next-within (l .loop .inv) (g .0) (s .pre .2) (omega (arith, g .0, i .loop-test .taken)) _ _ (c .before .widen .ensures .0) (c .block-length .ensures))
+    omega (arith, s .good .1 .1 .1 .0 .0, next-within (l .loop .inv) (g .0) (s .pre .2) (omega (arith, g .0, i .loop-test .taken)) _ _ (c .before .wide .ensures .0) (c .block-length .ensures))
 
 mul-done : tie.Need-mul-done Inv-loop μ-loop
 mul-done c = omega (arith, lanes-of _ (c .before .before .before .before .before .before .before .before .before .before .before .before .pre .0))
@@ -101,7 +101,7 @@ loop-again c =
     let l = i .before in
     let p = l .before .before .before .pre in
     let g = lanes-of _ (p .0) in
-    fetching-more (l .loop .inv) (g .0) (p .2) (omega (arith, g .0, i .loop-test .taken)) _ _ (c .before .widen .ensures .0) (c .block-length .ensures) (i .loop-test .taken) _ _ (b .fetch-block .ensures .0) (b .fetch-block .ensures .1)
+    fetching-more (l .loop .inv) (g .0) (p .2) (omega (arith, g .0, i .loop-test .taken)) _ _ (c .before .wide .ensures .0) (c .block-length .ensures) (i .loop-test .taken) _ _ (b .fetch-block .ensures .0) (b .fetch-block .ensures .1)
 
 sub-fetch-last : tie.Need-sub-fetch-last Inv-loop μ-loop
 sub-fetch-last c = omega (arith, c .if1 .taken)
@@ -169,7 +169,7 @@ fetch-body-spec =
     part-fetch-block-start-2
     (search needs)
     fetch-block-requires
-    shared-slice-read-widen
+    shared-slice-read-wide
     (search needs)
     block-length-requires
     add-place

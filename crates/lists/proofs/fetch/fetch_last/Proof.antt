@@ -19,8 +19,8 @@ sub-decompress c = omega (arith, framed _ _ (c .before .before .pre .1) .some)
 part-decompress-start : tie.Need-part-decompress-start
 part-decompress-start c = omega (arith, framed _ _ (c .before .before .pre .1) .some)
 
-shared-slice-read-widen : tie.Need-shared-slice-read-widen
-shared-slice-read-widen c = omega (arith, framed _ _ (c .before .before .before .before .before .pre .1) .some)
+shared-slice-read-wide : tie.Need-shared-slice-read-wide
+shared-slice-read-wide c = omega (arith, framed _ _ (c .before .before .before .before .before .pre .1) .some)
 
 array-share-prefix-block : tie.Need-array-share-prefix-block
 array-share-prefix-block c =
@@ -45,7 +45,7 @@ returns c =
     let w = d .before in
     let s = w .before .before .before .before .before .before in
     let a = s .args in
-    let there = d .decompress .ensures .1 ∙ unpack-is (a .lanes) (s .pre .0) (a .bytes .now) (framed _ _ (s .pre .1)) _ (w .widen .ensures .0) (a .mode) (replicate 256 0) (omega (arith, lanes-of _ (s .pre .0))) in
+    let there = d .decompress .ensures .1 ∙ unpack-is (a .lanes) (s .pre .0) (a .bytes .now) (framed _ _ (s .pre .1)) _ (w .wide .ensures .0) (a .mode) (replicate 256 0) (omega (arith, lanes-of _ (s .pre .0))) in
     y .copy .ensures ∙ ap (λ (t : List _). over t (a .values .now)) (own-block (a .lanes) (a .mode) (a .bytes .now) (a .count) (replicate 256 0) (d .decompress .last .1 .1 .1 .0) (s .pre .2) there)
 
 pub fetch-last-spec : {M : Type 1} → statement M
@@ -56,7 +56,7 @@ fetch-last-spec =
     part-decompress-start
     (search needs)
     (search needs)
-    shared-slice-read-widen
+    shared-slice-read-wide
     (search needs)
     (search needs)
     array-share-prefix-block

@@ -4,7 +4,7 @@ use borrow.Author.Tests.{eq-eqb, ne-eqb}
 use Rattle.answers.proofs.Guards.{denied, granted}
 use Rattle.layout.specs.Layout.{at, blockSize}
 use Rattle.layout.specs.Width.{leastWidth}
-use Rattle.bodies.specs.Reading.{entriesRefusal}
+use Rattle.lists.specs.kernel.Steps.{entriesRefusal}
 use Rattle.lists.proofs.BlockCalls.{width-is}
 use Rattle.lists.proofs.Takes.{fill-part}
 use borrow.Author.Needs.{needs}

@@ -30,8 +30,8 @@ there e = ap accepted (sym (e .before .before .frame-refusal .ensures)) ∙ gran
 mul-lesser : tie.Need-mul-lesser
 mul-lesser c = omega (arith, lanes-of _ (c .before .before .before .before .pre))
 
-shared-slice-read-widen : tie.Need-shared-slice-read-widen
-shared-slice-read-widen c = omega (arith, framed _ _ (there (c .before .before)) .some)
+shared-slice-read-wide : tie.Need-shared-slice-read-wide
+shared-slice-read-wide c = omega (arith, framed _ _ (there (c .before .before)) .some)
 
 block-entries-requires : tie.Need-block-entries-requires
 block-entries-requires c κs =
@@ -63,7 +63,7 @@ returns-2 c =
     let b = r .before .before in
     let w = b .before in
     let l = w .before .before in
-    bad-entries _ _ _ _ (l .lesser .ensures) (there (l .before)) (b .block-entries .result) (b .block-entries .ensures .1) _ (w .widen .ensures .0) (c .nothing2 .ensures) (r .entries-refusal .ensures)
+    bad-entries _ _ _ _ (l .lesser .ensures) (there (l .before)) (b .block-entries .result) (b .block-entries .ensures .1) _ (w .wide .ensures .0) (c .nothing2 .ensures) (r .entries-refusal .ensures)
     (denied (t .before .is-accepted2 .ensures) (t .if2 .taken))
 
 array-share-prefix-block-2 : tie.Need-array-share-prefix-block-2
@@ -87,7 +87,7 @@ returns-3 c =
     let b = r .before .before in
     let w = b .before in
     let l = w .before .before in
-    bad-order _ _ _ _ (l .lesser .ensures) (there (l .before)) (b .block-entries .result) (b .block-entries .ensures .1) _ (w .widen .ensures .0) (r .entries-refusal .ensures)
+    bad-order _ _ _ _ (l .lesser .ensures) (there (l .before)) (b .block-entries .result) (b .block-entries .ensures .1) _ (w .wide .ensures .0) (r .entries-refusal .ensures)
     (granted (a .before .is-accepted2 .ensures) (a .if2 .left)) (y .walk .ensures) (c .nothing3 .ensures) (not-true _ (t .if3 .taken))
 
 block-length-requires : tie.Need-block-length-requires
@@ -95,7 +95,7 @@ block-length-requires c κs =
     let w = c .before .before .before .before .before .before .before .before .before in
     let e = w .before .before .before in
     let p = e .before .before .before .before .pre in
-    (p, narrow-there _ p _ (framed _ _ (there e)) _ (w .widen .ensures .0))
+    (p, narrow-there _ p _ (framed _ _ (there e)) _ (w .wide .ensures .0))
 
 sub-left : tie.Need-sub-t24
 sub-left c =
@@ -111,7 +111,7 @@ returns-4 c =
     let b = r .before .before in
     let w = b .before in
     let l = w .before .before in
-    good-block _ _ _ _ (l .lesser .ensures) (there (l .before)) (b .block-entries .result) (b .block-entries .ensures .1) _ (w .widen .ensures .0) (r .entries-refusal .ensures)
+    good-block _ _ _ _ (l .lesser .ensures) (there (l .before)) (b .block-entries .result) (b .block-entries .ensures .1) _ (w .wide .ensures .0) (r .entries-refusal .ensures)
     (granted (a .before .is-accepted2 .ensures) (a .if2 .left)) (y .walk .ensures) _ (c .block-length .ensures) (not-false _ (t .if3 .left))
 
 pub take-block-spec : {M : Type 1} → statement M
@@ -124,7 +124,7 @@ take-block-spec =
     returns
     mul-lesser
     (search needs)
-    shared-slice-read-widen
+    shared-slice-read-wide
     (search needs)
     block-entries-requires
     mul-block

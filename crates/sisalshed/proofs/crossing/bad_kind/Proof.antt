@@ -1,5 +1,4 @@
 -- The number is the refusal's.
-use mathlib.Core.Path.{_≡_}
 use borrow.Author.Needs.{needs}
 use Rattle.sisalshed.proofs.crossing.bad_kind.Statement.{statement}
 use Rattle.sisalshed.proofs.crossing.bad_kind.Tie as tie

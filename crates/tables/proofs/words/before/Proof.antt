@@ -1,6 +1,6 @@
 -- The place of the letter is within the text.
-use mathlib.Core.Path.{_≡_, refl, sym, _∙_, ap}
-use Prim.Native.Nat.{ℕ, _+_, _-_, _≤_, _<_}
+use mathlib.Core.Path.{ap}
+use Prim.Native.Nat.{ℕ, _-_}
 use lib.ListN.{take}
 use Rattle.tables.specs.Words.{beforeOf}
 use borrow.Author.Needs.{needs}

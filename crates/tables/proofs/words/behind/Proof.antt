@@ -1,8 +1,8 @@
 -- The place of the letter is within the text, or is its end.
-use mathlib.Core.Path.{_≡_, refl, sym, _∙_, ap}
-use Prim.Native.Nat.{ℕ, _+_, _-_, _≤_, _<_}
+use mathlib.Core.Path.{sym, _∙_, ap}
+use Prim.Native.Nat.{ℕ, _+_, _-_}
 use native.Mathlib.Omega.{arith}
-use lib.ListN.{length, drop, length-drop, drop-of-length-le}
+use lib.ListN.{length, drop, drop-of-length-le}
 use Rattle.answers.proofs.Parts.{part-is, part-length}
 use Rattle.tables.specs.Words.{behindOf}
 use borrow.Author.Needs.{needs}

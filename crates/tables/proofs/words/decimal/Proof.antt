@@ -1,6 +1,6 @@
 -- The rest goes on behind the digits so far.
-use mathlib.Core.Path.{_≡_, refl, sym, _∙_, ap}
-use Prim.Native.Nat.{ℕ, _+_, _-_, _≤_, _<_}
+use mathlib.Core.Path.{_≡_, sym, _∙_, ap}
+use Prim.Native.Nat.{ℕ, _+_, _-_}
 use lib.ListN.{length, drop}
 use Rattle.tables.specs.Words.{digitsFrom, decimalOf}
 use Rattle.tables.proofs.Going.{decimal-none, decimal-some, digits-more, digits-end}

@@ -1,12 +1,9 @@
 -- By the two letters.
-use mathlib.Core.Path.{_≡_, refl, sym, _∙_, ap}
-use Prim.Native.Nat.{ℕ, _+_, _-_, _≤_, _<_}
-use mathlib.Core.Bool.{cond, false}
+use mathlib.Core.Path.{sym, _∙_}
+use Prim.Native.Nat.{_-_}
 use lib.Dec.{eqb}
 use borrow.Author.Tests.{eq-eqb, ne-eqb}
-use lib.ListN.{drop}
 use Rattle.layout.specs.Layout.{at}
-use Rattle.tables.specs.Words.{isName}
 use Rattle.tables.proofs.Going.{name-is}
 use borrow.Author.Needs.{needs}
 use Rattle.tables.proofs.words.is_name.Statement.{statement}

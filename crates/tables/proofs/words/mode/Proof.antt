@@ -1,11 +1,11 @@
 -- By the second letter of the mode.
-use mathlib.Core.Path.{_≡_, refl, sym, _∙_, ap}
+use mathlib.Core.Path.{_≡_, sym, _∙_, ap}
 use mathlib.Core.List.{List}
-use Prim.Native.Nat.{ℕ, _+_, _-_, _≤_, _<_}
+use Prim.Native.Nat.{ℕ, _-_}
 use native.Mathlib.Omega.{arith}
 use borrow.Author.Tests.{eq-eqb, ne-eqb}
 use Rattle.layout.specs.Layout.{at}
-use Rattle.tables.specs.Words.{valueOf, decimalOf, numberOf, initialIn, modeIn}
+use Rattle.tables.specs.Words.{valueOf, amountOf, modeIn}
 use borrow.Author.Needs.{needs}
 use Rattle.tables.proofs.words.mode.Statement.{statement}
 use Rattle.tables.proofs.words.mode.Tie as tie
@@ -19,7 +19,7 @@ unfolding modeIn
 returns c = rw (eq-eqb _ 108 (told (c .before) ∙ c .match .keys1))
 
 returns-2 : tie.Need-returns-2
-unfolding modeIn numberOf
+unfolding modeIn amountOf
 returns-2 c =
     let m = c .before .before in
     let x = at (valueOf 109 (m .before .before .before .before .before .before .args .line .now)) 1 in

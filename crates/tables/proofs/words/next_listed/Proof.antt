@@ -1,7 +1,6 @@
 -- By whether there is anything left of the text.
-use mathlib.Core.Path.{_≡_, refl, sym, _∙_, ap}
-use Prim.Native.Nat.{ℕ, _+_, _-_, _≤_, _<_}
-use Rattle.tables.specs.Words.{nextListed}
+use mathlib.Core.Path.{sym, _∙_}
+use Prim.Native.Nat.{_-_}
 use Rattle.tables.proofs.Going.{listed-none, listed-some}
 use borrow.Author.Needs.{needs}
 use Rattle.tables.proofs.words.next_listed.Statement.{statement}

@@ -1,14 +1,13 @@
 -- The first k values are there, and the rest of the text is that from number k on.
-use mathlib.Core.Path.{_≡_, refl, sym, _∙_, ap}
-use mathlib.Core.List.{List}
-use Prim.Native.Nat.{ℕ, _+_, _-_, _≤_, _<_}
+use mathlib.Core.Path.{_≡_, refl, _∙_, ap}
+use Prim.Native.Nat.{_-_, _≤_, _<_}
 use native.Mathlib.Omega.{arith}
 use native.Mathlib.Numerals.{add-one}
 use lib.ListN.{length}
 use Rattle.layout.specs.Layout.{table}
 use Rattle.answers.proofs.Fronts.{Front, front-none, front-length, front-put}
 use Rattle.layout.proofs.Tables.{length-table}
-use Rattle.tables.specs.Words.{nextListed, behindOf, listFrom, listedBefore, listed}
+use Rattle.tables.specs.Words.{behindOf, listFrom, listedBefore, listed}
 use Rattle.tables.proofs.Going.{front-full}
 use borrow.Author.Needs.{needs}
 use Rattle.tables.proofs.words.put_values.Statement.{statement}

@@ -1,5 +1,5 @@
 -- By its part of the value.
-use mathlib.Core.Path.{_≡_, refl, sym, _∙_, ap}
+use mathlib.Core.Path.{_∙_, ap}
 use Rattle.tables.specs.Words.{behindOf, decimalOf, secondOf}
 use borrow.Author.Needs.{needs}
 use Rattle.tables.proofs.words.second.Statement.{statement}

@@ -1,7 +1,6 @@
 -- By the three parts.
-use mathlib.Core.Path.{_≡_, refl, sym, _∙_, ap}
-use mathlib.Core.List.{List}
-use Prim.Native.Nat.{ℕ, _+_, _-_, _≤_, _<_}
+use mathlib.Core.Path.{_∙_, ap}
+use Prim.Native.Nat.{_-_}
 use Rattle.tables.specs.Words.{beforeOf, behindOf, valueOf}
 use borrow.Author.Needs.{needs}
 use Rattle.tables.proofs.words.value.Statement.{statement}

@@ -1,6 +1,6 @@
 -- No such name begins before place i.
-use mathlib.Core.Path.{_≡_, refl, sym, _∙_, ap}
-use Prim.Native.Nat.{ℕ, _+_, _-_, _≤_, _<_}
+use mathlib.Core.Path.{_≡_, refl, sym, _∙_}
+use Prim.Native.Nat.{_+_, _-_, _≤_}
 use lib.ListN.{length, drop}
 use Rattle.answers.proofs.Parts.{part-is}
 use Rattle.tables.specs.Words.{wordOf}

@@ -1,6 +1,5 @@
 -- By the two numbers.
-use mathlib.Core.Path.{_≡_, _∙_, ap}
-use Prim.Native.Nat.{ℕ}
+use mathlib.Core.Path.{_∙_, ap}
 use Rattle.tables.specs.declared.line.Numbers.{Numbers}
 use Rattle.tables.specs.Numbers.{withNumber}
 use borrow.Author.Needs.{needs}

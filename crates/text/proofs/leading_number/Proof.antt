@@ -2,14 +2,14 @@
 use mathlib.Core.Path.{ap}
 use Prim.Native.Nat.{ℕ, _%_}
 use borrow.Author.Needs.{needs}
-use Rattle.text.proofs.number.Statement.{statement}
-use Rattle.text.proofs.number.Tie as tie
+use Rattle.text.proofs.leading_number.Statement.{statement}
+use Rattle.text.proofs.leading_number.Tie as tie
 
 returns : tie.Need-returns
 returns c = ap (λ (n : ℕ). n % 4294967296) (c .ten-digits .ensures)
 
-pub number-spec : {M : Type 1} → statement M
-number-spec =
+pub leading-number-spec : {M : Type 1} → statement M
+leading-number-spec =
     tie.close
     (tie.spec
     (search needs)

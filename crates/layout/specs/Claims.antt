@@ -49,10 +49,10 @@ pub record Least (e : ℕ → ℕ) (m n : ℕ) : Type 0 where
   pub least : (j : ℕ) → Fit e m j → n ≤ j
 
 -- ".. it is 32 less the leading zeros of all entries or-ed together, and 0 if that is 0." (`significant` is that of one number.)
-pub record WidthOf (e : ℕ → ℕ) (m : ℕ) : Type 0 where
+pub record IsLeastWidth (e : ℕ → ℕ) (m : ℕ) : Type 0 where
   pub least : Least e m (leastWidth e m)
   pub most : leastWidth e m ≤ 32
   pub by-or : leastWidth e m ≡ significant (orAll e m)
 
 abbrev pub LeastWidth : Type 0
-LeastWidth = (e : ℕ → ℕ) (m : ℕ) → Fit e m 32 → WidthOf e m
+LeastWidth = (e : ℕ → ℕ) (m : ℕ) → Fit e m 32 → IsLeastWidth e m

@@ -25,7 +25,7 @@ orAll e zero = 0
 orAll e (suc m) = bitOr (orAll e m) (e m)
 
 -- the width of one number: 32 less its leading zeros, and 0 for 0. The least width "is 32 less the leading zeros of all
--- entries or-ed together, and 0 if that is 0": Claims, WidthOf.
+-- entries or-ed together, and 0 if that is 0": Claims, IsLeastWidth.
 unfoldable pub significant : ℕ → ℕ
 significant zero = 0
 significant (suc v) = 32 - leadingZeros 32 (suc v)

@@ -11,13 +11,13 @@ returns c =
     let d = c .before .before .before .before .before .before .before in
     record {
       l0 = d .wrapping-sub .ensures ∙ ap (minus (at (d .before .before .args .t1) 0)) (d .before .last-lane .ensures);
-      l1 = search needs;
-      l2 = search needs;
-      l3 = search needs;
-      l4 = search needs;
-      l5 = search needs;
-      l6 = search needs;
-      l7 = search needs;
+      l1 = c .before .before .before .before .before .before .wrapping-sub2 .ensures;
+      l2 = c .before .before .before .before .before .wrapping-sub3 .ensures;
+      l3 = c .before .before .before .before .wrapping-sub4 .ensures;
+      l4 = c .before .before .before .wrapping-sub5 .ensures;
+      l5 = c .before .before .wrapping-sub6 .ensures;
+      l6 = c .before .wrapping-sub7 .ensures;
+      l7 = c .wrapping-sub8 .ensures;
     }
 
 pub compute-delta-spec : {M : Type 1} → statement M

@@ -1,5 +1,6 @@
 pub mod Guards
 pub mod Refusals
+pub mod Numbers
 pub mod Answers
 pub mod Parts
 pub mod Fronts

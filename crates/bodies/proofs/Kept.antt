@@ -123,6 +123,9 @@ module _ (L : ℕ) (lanes : 0 < L) (m : Mode) (count : ℕ) (bs : List ℕ) (byt
   all-taken : Taken L m count bs (blockCount L count) (bodyStop L m count bs)
   all-taken = taken (blockCount L count) L m count bs bytes
 
+  pub kept-fewer : bodyStop L m count bs .blocks ≤ blockCount L count
+  kept-fewer = all-taken .fewer
+
   pub kept-left : bodyStop L m count bs .left ≡ count - bodyStop L m count bs .blocks * blockSize L
   kept-left = all-taken .rest
 
@@ -133,7 +136,7 @@ module _ (L : ℕ) (lanes : 0 < L) (m : Mode) (count : ℕ) (bs : List ℕ) (byt
   kept-count = omega (arith, all-taken .rest)
 
   kept-blocks : blockCount L (count - bodyStop L m count bs .left) ≡ bodyStop L m count bs .blocks
-  kept-blocks = rw kept-count (blocks-first L lanes (bodyStop L m count bs .blocks) count (all-taken .fewer))
+  kept-blocks = rw kept-count (blocks-first L lanes (bodyStop L m count bs .blocks) count kept-fewer)
 
   pub kept-good : accepted (bodyRefusal L m (count - bodyStop L m count bs .left) (take (bodyStop L m count bs .place) bs)) ≡ true
   kept-good = rw kept-blocks (all-taken .good)

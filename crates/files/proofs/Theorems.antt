@@ -23,7 +23,7 @@ use Rattle.order.proofs.Beginnings.{starting-first, starting-entries, initial-t
 use Rattle.bodies.specs.Body.{bodyOf}
 use Rattle.bodies.proofs.Sizes.{body-short}
 use Rattle.lists.specs.Calls.{measureRefusal, readRefusal}
-use Rattle.lists.proofs.Accepts.{measure-exactly, writing-parts}
+use Rattle.lists.proofs.Accepts.{measure-exactly, writing-parts, read-exactly}
 use Rattle.lists.specs.Demand.{Holds}
 use Rattle.lists.proofs.Demand.{list-read, body-accepted, list-back}
 use Rattle.text.specs.Text.{begins}
@@ -34,7 +34,7 @@ use Rattle.files.specs.declared.SettingsFound.{SettingsFound}
 use Rattle.files.specs.declared.heading.Header.{Header}
 use Rattle.files.specs.Header.{modeWord, firstText, settings, fileOf, readBack, headerText, IsHeader, Heads, Sets}
 use Rattle.files.specs.kernel.Finding.{settingsIn, headerFound}
-use Rattle.files.specs.Claims.{FoundExactly, FoundBack, NothingFound, OpensExactly, HeaderBack, HeaderAgain, SettingsExactly, SettingsBack, NoSettings, WrittenBack, FileWritten, ListBack, FileAgain}
+use Rattle.files.specs.Claims.{FoundExactly, FoundBack, NothingFound, OpensExactly, HeaderBack, HeaderAgain, SettingsExactly, SettingsBack, NoSettings, WrittenBack, FileWritten, ListBack, Files, ReadExactly, ReadOnly, FileAgain}
 use Rattle.files.specs.Opening.{isSettings, isHeaded, headerIn, bodyIn, isFile, headerRefusal, headerAnswer, openAnswer}
 use Rattle.files.specs.Calls.{listIn, readFileRefusal, readFileAnswer, readFileOutput, headerFor, fileFor, writeFileOutput}
 use Rattle.files.proofs.Tests.{not-set, not-headed, filed, is-file}
@@ -259,3 +259,19 @@ lists-back = file-read-back
 
 pub files-again : FileAgain
 files-again = file-again
+
+-- what is read is what the writer writes
+pub files-exactly : ReadExactly
+files-exactly file room bytes = (there, λ x. let f = x .1 .1 .1 .0 in ap accepted (ap (λ (t : List ℕ). readFileRefusal t room) (f .whole) ∙ file-accepted (x .0) (x .1 .0) (x .1 .1 .0) (f .lanes) (f .first) (f .list) room (x .1 .1 .1 .1)))
+  where
+    there : accepted (readFileRefusal file room) ≡ true → (L : ℕ) × ((m : Mode) × ((vs : List ℕ) × (Files file L m vs × (length vs ≤ room))))
+    there h =
+        let o = opened file room bytes h in
+        let l = held file room bytes h .list in
+        let enough = read-exactly (headerIn file .lanes) (headerIn file .mode) (headerIn file .count) (bodyIn file) room .0 (both (headerRefusal file) _ h .1) .enough in
+        let is : Files file (headerIn file .lanes) (headerIn file .mode) (listIn file) =
+        record { lanes = o .sound .told .lanes; first = o .sound .told .first; list = rw (l .size) l; whole = sym (same-file file room bytes h) } in
+        (headerIn file .lanes, (headerIn file .mode, (listIn file, (is, omega (arith, l .size, enough)))))
+
+pub files-only : ReadOnly
+files-only file L m vs f = ap listIn (f .whole) ∙ file-list-back L m vs (f .lanes) (f .first) (f .list)

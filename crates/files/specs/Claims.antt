@@ -71,6 +71,22 @@ ListBack =
     (L : ℕ) (m : Mode) (vs : List ℕ) → isLanes L ≡ true → firstOf m < 2 ^ 32 → IsList m (length vs) vs → (out : List ℕ) → length vs ≤ length out
     → (readFileAnswer (fileFor L m vs) (length out) ≡ record { refusal = Accepted; length = length vs }) × (readFileOutput (fileFor L m vs) out ≡ over vs out)
 
+-- a file is what the writer writes for the list vs
+pub record Files (file : List ℕ) (L : ℕ) (m : Mode) (vs : List ℕ) : Type 0 where
+  pub lanes : isLanes L ≡ true
+  pub first : firstOf m < 2 ^ 32
+  pub list : IsList m (length vs) vs
+  pub whole : file ≡ fileFor L m vs
+
+-- a file is read, with room for its list, exactly when it is what the writer writes for some list; that list is the only one, and is read
+abbrev pub ReadExactly : Type 0
+ReadExactly =
+    (file : List ℕ) (room : ℕ) → Below 256 file
+    → (accepted (readFileRefusal file room) ≡ true) ↔ ((L : ℕ) × ((m : Mode) × ((vs : List ℕ) × (Files file L m vs × (length vs ≤ room)))))
+
+abbrev pub ReadOnly : Type 0
+ReadOnly = (file : List ℕ) (L : ℕ) (m : Mode) (vs : List ℕ) → Files file L m vs → listIn file ≡ vs
+
 -- a file accepted, written again from what was read with what the header call handed out, is the same bytes
 abbrev pub FileAgain : Type 0
 FileAgain =

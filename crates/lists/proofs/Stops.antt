@@ -20,7 +20,7 @@ use Rattle.bodies.specs.Body.{blockCount}
 use Rattle.bodies.specs.Reading.{entriesFrom, listOf}
 use Rattle.bodies.specs.Stops.{bodyStop}
 use Rattle.bodies.proofs.Stops.{stop-refusal}
-use Rattle.bodies.proofs.Kept.{kept-left, kept-inside, kept-good, kept-mode, kept-whole, kept-most}
+use Rattle.bodies.proofs.Kept.{kept-fewer, kept-left, kept-inside, kept-good, kept-mode, kept-whole, kept-most}
 use Rattle.lists.specs.Calls.{readRefusal}
 use Rattle.lists.specs.Parts.{checkStop}
 use Rattle.lists.specs.Stops.{Stops, WhereItStops}
@@ -45,6 +45,7 @@ module _ (L : ℕ) (m : Mode) (lanes : isLanes L ≡ true) (count : ℕ) (bs : L
       read-exactly L m size front size .1 (record { lanes = lanes; few = omega arith; enough = le-refl size; body = kept-good L pos (starting m) count bs bytes }) in
       record {
         refused = λ room enough. refusal ∙ rw (lanes, le-ltb most count few, le-ltb room count enough);
+        fewer = kept-fewer L pos (starting m) count bs bytes;
         left = kept-left L pos (starting m) count bs bytes;
         inside = kept-inside L pos (starting m) count bs bytes;
         whole = λ h. kept-whole L pos (starting m) count bs bytes (rw refusal at h);

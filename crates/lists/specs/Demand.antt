@@ -1,7 +1,7 @@
--- Demand 3: "Fix lanes, mode and first value. For up to 4,096 values in the mode's order, the reader, given a count, a body and room,
--- accepts exactly when the body is what demand 2's layout and the list rules write for some list of that count; that list is the only
--- one, and is what it returns. The list writer, given such a list and room, writes exactly that body." The contracts of `read` and of
--- `write` (src/lib.rt) say it of what they answer and leave: DemandReads and DemandWrites.
+-- Demand 3, of the three that the project rests on (docs/PROMISES.md): "Fix lanes, mode and first value. For up to 4,096 values in the mode's
+-- order, the reader, given a count, a body and room, accepts exactly when the body is what demand 2's layout and the list rules write for some
+-- list of that count; that list is the only one, and is what it returns. The list writer, given such a list and room, writes exactly that
+-- body." The contracts of `read` and of `write` (src/lib.rt) say it of what they answer and leave: DemandReads and DemandWrites.
 use mathlib.Core.Path.{_≡_}
 use mathlib.Core.Bool.{true}
 use mathlib.Core.Logic.{_↔_}

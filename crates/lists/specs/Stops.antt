@@ -21,6 +21,7 @@ pub record Stops (L : ℕ) (m : Mode) (count : ℕ) (bs : List ℕ) (s : Stop) :
   pub refused : (room : ℕ) → count ≤ room → s .refusal ≡ readRefusal L m count bs room
   -- what is taken is blocks x B values, or all there are, and lies within the bytes; none is left of an accepted body, and no byte behind
   -- the last block
+  pub fewer : s .blocks ≤ blockCount L count
   pub left : s .left ≡ count - s .blocks * blockSize L
   pub inside : s .place ≤ length bs
   pub whole : accepted (s .refusal) ≡ true → (s .left ≡ 0) × (s .place ≡ length bs)

@@ -4,7 +4,7 @@ use Prim.Native.Nat.{ℕ, zero, suc, _-_, _^_, _≤_, _<_}
 use native.Mathlib.Omega.{arith}
 use Rattle.lanes.specs.Sums.{before}
 use Rattle.modes.specs.Entries.{firstOf, entryOf, valueOf, entries, valuesFrom, values}
-use Rattle.modes.specs.Claims.{ValuesBack, EntriesBack}
+use Rattle.modes.specs.Claims.{EntriesSmall, ValuesBack, EntriesBack}
 use Rattle.modes.specs.declared.Mode.{Mode}
 use Rattle.modes.specs.declared.Mode.the-variants.{Plain, Sorted, Strict}
 
@@ -33,7 +33,7 @@ value-small (Strict i) p e h = omega arith
 
 -- a block
 
-pub entries-small : (m : Mode) (v : ℕ → ℕ) (k : ℕ) → v k < 2 ^ 32 → entries m v k < 2 ^ 32
+pub entries-small : EntriesSmall
 entries-small m v k h = entry-small m _ (v k) h
 
 pub values-small : (m : Mode) (p : ℕ) (e : ℕ → ℕ) (k : ℕ) → e k < 2 ^ 32 → valuesFrom m p e k < 2 ^ 32

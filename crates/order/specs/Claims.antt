@@ -19,7 +19,8 @@ Follows Plain u v = Unit {0}
 Follows (Sorted f) u v = u ≤ v
 Follows (Strict i) u v = u < v
 
--- "the first is measured against the first number"; strict with none puts no bound on it
+-- "the first is measured against the first number"; strict with none puts no bound on it. (Nor does strict with 4,294,967,295: a list is
+-- measured by the mode that it starts with, `starting`, which makes none of it.)
 abbrev pub First : Mode → ℕ → Type 0
 First Plain v = Unit {0}
 First (Sorted f) v = f ≤ v

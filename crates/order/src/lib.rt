@@ -81,7 +81,7 @@ pub fn next_value(mode: Mode, e: u32) -> u32
     }
 }
 
-// Whether the values are in the mode's order.
+// Whether the values are in the mode's order, where they come next; of a whole list the mode is `starting` of the list's.
 pub fn in_order(mode: Mode, values: &[u32]) -> bool
     ensures { λ r. ⌜ r ≡ ordered mode (now (values .entry)) ⌝ }
 {

@@ -24,7 +24,7 @@ TextsExactly = (text : List ℕ) → (isText text ≡ true) ↔ ((L : ℕ) × ((
 abbrev pub TextValues : Type 0
 TextValues = (text : List ℕ) (L : ℕ) (m : Mode) (vs : List ℕ) → IsText text L m vs → valuesIn text ≡ vs
 
--- "Number 4 does not arise in the programs": these do, and 0 stands for none
+-- "Number 4 does not arise in the programs": none but these does, and 0 stands for none
 abbrev pub FileNumbers : Type 0
 FileNumbers = (file : List ℕ) → HasOne (0 ∷ 12 ∷ 7 ∷ 5 ∷ 2 ∷ 10 ∷ 9 ∷ 8 ∷ 11 ∷ []) (fileRefusal file)
 

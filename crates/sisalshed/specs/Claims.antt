@@ -22,6 +22,6 @@ PartIsBody = (file : List ℕ) → take (bodyCrossed file .length) (drop (bodyCr
 abbrev pub PartToTheEnd : Type 0
 PartToTheEnd = (file : List ℕ) → isFile file ≡ true → bodyCrossed file .start + bodyCrossed file .length ≡ length file
 
--- the numbers are those of the C header's enum
+-- the numbers are those of the C header's enum; no two refusals have one (answers/specs/Claims)
 abbrev pub NumberKnown : Type 0
 NumberKnown = (k : Refusal) → numberOf k ≤ 12

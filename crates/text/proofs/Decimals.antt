@@ -27,7 +27,7 @@ digits-front (suc k) n =
 
 -- the number that they stand for
 
-value-more : (m : ℕ) (ds : List ℕ) (d : ℕ) → valueFrom m (ds ++ (d ∷ [])) ≡ valueFrom m ds * 10 + (d - 48)
+pub value-more : (m : ℕ) (ds : List ℕ) (d : ℕ) → valueFrom m (ds ++ (d ∷ [])) ≡ valueFrom m ds * 10 + (d - 48)
 unfolding valueFrom
 value-more m [] d = refl
 value-more m (x ∷ ds) d = value-more (m * 10 + (x - 48)) ds d

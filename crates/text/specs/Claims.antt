@@ -1,4 +1,4 @@
--- What is claimed of numbers as texts: "Numbers are decimal, at most 4,294,967,295, without leading zeros." (proofs/Claims, is-decimal)
+-- What is claimed of numbers as texts: "Numbers are decimal, at most 4,294,967,295, without leading zeros." (proofs/Claims, is-decimal and one-decimal)
 use mathlib.Core.Path.{_≡_}
 use mathlib.Core.List.{List, [], _∷_}
 use Prim.Native.Nat.{ℕ, _+_, _^_, _≤_, _<_}
@@ -15,3 +15,7 @@ pub record IsDecimal (n : ℕ) (text : List ℕ) : Type 0 where
 
 abbrev pub Decimals : Type 0
 Decimals = (n : ℕ) → n < 2 ^ 32 → IsDecimal n (decimal n)
+
+-- and no other text is that number's
+abbrev pub OneDecimal : Type 0
+OneDecimal = (n : ℕ) (text : List ℕ) → n < 2 ^ 32 → IsDecimal n text → text ≡ decimal n

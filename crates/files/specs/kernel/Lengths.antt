@@ -1,7 +1,7 @@
 -- How many bytes the lines of a header take at most: the room that their writers ask for.
 use Prim.Native.Nat.{ℕ, _+_}
 
--- a name of six letters, ten digits and byte 10: the lanes, first, count and bytes lines
+-- a name of five letters and `=`, ten digits and byte 10: the lanes, first, count and bytes lines
 abbrev pub longestNumberLine : ℕ
 longestNumberLine = 17
 

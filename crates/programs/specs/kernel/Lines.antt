@@ -1,5 +1,5 @@
 -- The values of the lines that bytes begin with. Nobody need believe this: the lines of the values that are found so are held against the
--- bytes themselves (Programs, isText), and what some values write is found so (Claims, TextsExactly).
+-- bytes themselves (Programs, isText), and what some values write is found so (Claims, TextValues).
 use mathlib.Core.Bool.{cond}
 use mathlib.Core.List.{List, [], _∷_}
 use Prim.Native.Nat.{ℕ, zero, suc}

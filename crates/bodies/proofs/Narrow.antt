@@ -54,7 +54,7 @@ narrow-blocks L es (suc b) h =
     let p = total-parts n es in
     rw length-append (omega (arith, block-long L 31 (take n es) (narrow-width L (take n es) (omega arith)), narrow-blocks L (drop n es) b (omega arith)))
 
--- at most one of the blocks has width 32
+-- so the blocks are together no longer than if one had width 32 and the others at most 31
 one-wide-block : (L : ℕ) (es : List ℕ) (b : ℕ) → total es < 2 ^ 32 → length (blocksOf L es b) ≤ b * (1 + 4 * L * 31) + 4 * L
 unfolding blocksOf
 one-wide-block L es zero h = omega arith

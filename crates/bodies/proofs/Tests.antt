@@ -2,7 +2,7 @@
 use mathlib.Core.Path.{_≡_, refl, sym, _∙_}
 use mathlib.Core.Bool.{true, false}
 use mathlib.Core.List.{List}
-use Prim.Native.Nat.{ℕ, zero, suc, _+_, _-_, _≤_, _<_, min}
+use Prim.Native.Nat.{ℕ, zero, suc, _+_, _-_, _≤_, _<_}
 use native.Mathlib.Omega.{arith}
 use native.Mathlib.Decide.{ℕ-discrete}
 use borrow.Author.Tests.{ltb-false, lt-ltb, le-ltb, eqb-true, eq-eqb, ne-eqb, not-false}
@@ -13,9 +13,9 @@ use Rattle.layout.specs.Width.{fits, leastWidth}
 use Rattle.modes.specs.declared.Mode.{Mode}
 use Rattle.answers.specs.declared.Refusal.the-variants.{Accepted, BadWidth, CutShort, OutOfOrder, NotLeast, BadFill}
 use Rattle.answers.specs.Refusals.{accepted}
-use Rattle.answers.proofs.Refusals.{passed, first-stops}
+use Rattle.answers.proofs.Refusals.{passed}
 use Rattle.order.specs.Order.{ordered}
-use Rattle.bodies.specs.Reading.{widthAt, sizeAt, entryAt, valuesAt, allZero, frameRefusal, blockRefusal, refusalFrom}
+use Rattle.bodies.specs.Reading.{widthAt, sizeAt, entryAt, valuesAt, allZero, frameRefusal, blockRefusal}
 
 -- a block stands there
 pub record Framed (L : ℕ) (bs : List ℕ) : Type 0 where
@@ -96,9 +96,3 @@ block-passes L m k bs p =
       eq-eqb (widthAt bs) (leastWidth (entryAt L bs) (blockSize L)) (p .entries .least),
       p .order,
     )
-
--- "block by block": what a block is refused for is told before the blocks behind it are looked at
-pub block-first : (L : ℕ) (m : Mode) (count : ℕ) (bs : List ℕ) (b : ℕ) → accepted (blockRefusal L m (min (blockSize L) count) bs) ≡ false
-    → refusalFrom L m count bs (suc b) ≡ blockRefusal L m (min (blockSize L) count) bs
-unfolding refusalFrom
-block-first L m count bs b h = first-stops (blockRefusal L m (min (blockSize L) count) bs) _ h

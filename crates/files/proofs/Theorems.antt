@@ -34,7 +34,7 @@ use Rattle.files.specs.declared.SettingsFound.{SettingsFound}
 use Rattle.files.specs.declared.heading.Header.{Header}
 use Rattle.files.specs.Header.{modeWord, firstText, settings, fileOf, readBack, headerText, IsHeader, Heads, Sets}
 use Rattle.files.specs.kernel.Finding.{settingsIn, headerFound}
-use Rattle.files.specs.Claims.{FoundExactly, FoundBack, NothingFound, OpensExactly, HeaderBack, HeaderAgain, SettingsExactly, SettingsBack, NoSettings, WrittenBack, FileWritten, ListBack, Files, ReadExactly, ReadOnly, FileAgain}
+use Rattle.files.specs.Claims.{FoundExactly, FoundBack, HeaderNotFound, OpensExactly, HeaderBack, HeaderAgain, SettingsExactly, SettingsBack, SettingsNotFound, WrittenBack, FileWritten, ListBack, Files, ReadExactly, ReadOnly, FileAgain}
 use Rattle.files.specs.Opening.{isSettings, isHeaded, headerIn, bodyIn, isFile, headerRefusal, headerAnswer, openAnswer}
 use Rattle.files.specs.Calls.{listIn, readFileRefusal, readFileAnswer, readFileOutput, headerFor, fileFor, writeFileOutput}
 use Rattle.files.proofs.Tests.{not-set, not-headed, filed, is-file}
@@ -111,11 +111,11 @@ opens-exactly file = (there (isFile file) refl, λ x. rw (heads-file (x .1 .1)))
 pub found-back : FoundBack
 found-back = header-is-found
 
-pub nothing-found : NothingFound
-nothing-found file = not-headed file
+pub header-not-found : HeaderNotFound
+header-not-found file = not-headed file
 
-pub no-settings-found : NoSettings
-no-settings-found text = not-set text
+pub settings-not-found : SettingsNotFound
+settings-not-found text = not-set text
 
 pub comes-back : HeaderBack
 comes-back file h body hd = (header-back hd, body-back hd)

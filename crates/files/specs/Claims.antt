@@ -33,8 +33,8 @@ FoundExactly = (file : List ℕ) → (isHeaded file ≡ true) ↔ ((h : Header) 
 abbrev pub FoundBack : Type 0
 FoundBack = (file : List ℕ) (h : Header) (body : List ℕ) → IsHeader h → file ≡ fileOf h body → headerFound file ≡ record { refusal = Accepted; header = h; start = length (headerText h) }
 
-abbrev pub NothingFound : Type 0
-NothingFound = (file : List ℕ) → isHeaded file ≡ false → headerFound file ≡ nothingFound
+abbrev pub HeaderNotFound : Type 0
+HeaderNotFound = (file : List ℕ) → isHeaded file ≡ false → headerFound file ≡ nothingFound
 
 -- a header whose `bytes` agrees is what the header call hands out, and what stands behind it is what the opener hands back
 abbrev pub HeaderBack : Type 0
@@ -51,8 +51,8 @@ SettingsExactly = (text : List ℕ) → (isSettings text ≡ true) ↔ ((L : ℕ
 abbrev pub SettingsBack : Type 0
 SettingsBack = (text : List ℕ) (L : ℕ) (m : Mode) (rest : List ℕ) → Sets text L m rest → settingsIn text ≡ record { refusal = Accepted; lanes = L; mode = m; length = length (settings L m []) }
 
-abbrev pub NoSettings : Type 0
-NoSettings = (text : List ℕ) → isSettings text ≡ false → settingsIn text ≡ noSettings
+abbrev pub SettingsNotFound : Type 0
+SettingsNotFound = (text : List ℕ) → isSettings text ≡ false → settingsIn text ≡ noSettings
 
 -- a header with any mode, written, is read back as it was, and with none for strict's 4,294,967,295
 abbrev pub WrittenBack : Type 0

@@ -43,11 +43,3 @@ pub values-are : ListValues
 unfolding table valuesOf
 values-are m e zero = refl
 values-are m e (suc k) = values-append m (table e k) (e k ∷ []) ∙ rw (values-are m e k, values-one, next-value m e k)
-
--- and the mode past them: that of the last
-pub mode-past : (m : Mode) (e : ℕ → ℕ) (k : ℕ) → 0 < k → afterAll m (valuesOf m (table e k)) ≡ after m (values m e (k - 1))
-unfolding table
-mode-past m e zero h = absurd (omega arith)
-mode-past m e (suc k) h =
-    let p : suc k - 1 ≡ k = omega arith in
-    rw (values-are m e (suc k), p) (after-last m (table (values m e) k) (values m e k))

@@ -38,7 +38,7 @@ use Rattle.files.proofs.Filing.{file-splits}
 use Rattle.files.proofs.Theorems.{settings-back, rest-found, settings-sets, header-heads, fields-found, heads-file, body-found, opened, held, same-file, file-accepted, file-list-back}
 use Rattle.programs.specs.Lines.{valueLines}
 use Rattle.programs.specs.kernel.Lines.{linesIn}
-use Rattle.programs.specs.Claims.{TextsExactly, TextValues, FileNumbers, TextNumbers, TextRoom, FileRoom, ValuesBack, FileBack}
+use Rattle.programs.specs.Claims.{TextsExactly, TextValues, FileNumbers, TextNumbers, TextRoom, FileRoom, PrintedBack, PackedBack}
 use Rattle.programs.specs.Programs.{refusedLine, output, limitRefusal, fileRefusal, listToText, IsText, restIn, valuesIn, isText, textRefusal, textToList, isOne, HasOne, outAnswer, outLeft}
 use Rattle.programs.proofs.ValueLines.{lines-short}
 use Rattle.programs.proofs.Found.{values-found, found-small}
@@ -225,8 +225,8 @@ module _ (file : List ℕ) (bytes : Below 256 file) (h : accepted (readFileRefus
       ap (λ (x : List ℕ). textToList (settings lanes mode x)) printed ∙ text-told t (omega (arith, text-length lanes mode (listIn file) (list-few file h))) ∙ rw measures (same-file file most bytes h)
 
 -- and so the claims
-pub lists-back : ValuesBack
-lists-back text L m vs t l = values-back t l
+pub printed-back : PrintedBack
+printed-back text L m vs t l = values-back t l
 
-pub files-back : FileBack
-files-back = file-back
+pub packed-back : PackedBack
+packed-back = file-back

@@ -39,8 +39,8 @@ abbrev pub FileRoom : Type 0
 FileRoom = (text : List ℕ) → length (textToList text) ≤ 16593
 
 -- the list of a text, packed and printed, is its values; a file that is read, printed and packed again is the same bytes
-abbrev pub ValuesBack : Type 0
-ValuesBack = (text : List ℕ) (L : ℕ) (m : Mode) (vs : List ℕ) → IsText text L m vs → IsList m (length vs) vs → listToText (textToList text) ≡ valueLines vs
+abbrev pub PrintedBack : Type 0
+PrintedBack = (text : List ℕ) (L : ℕ) (m : Mode) (vs : List ℕ) → IsText text L m vs → IsList m (length vs) vs → listToText (textToList text) ≡ valueLines vs
 
-abbrev pub FileBack : Type 0
-FileBack = (file : List ℕ) → Below 256 file → accepted (readFileRefusal file most) ≡ true → textToList (settings (headerIn file .lanes) (headerIn file .mode) (listToText file)) ≡ file
+abbrev pub PackedBack : Type 0
+PackedBack = (file : List ℕ) → Below 256 file → accepted (readFileRefusal file most) ≡ true → textToList (settings (headerIn file .lanes) (headerIn file .mode) (listToText file)) ≡ file

@@ -9,3 +9,4 @@ pub mod Demand
 pub mod Stops
 pub mod Starred
 pub mod Determined
+pub mod Demanded

@@ -7,7 +7,7 @@ use Prim.Native.Nat.{ℕ, ◌≤◌}
 use borrow.Author.Tests.{ltb-false, le-ltb, eqb-true, eq-eqb, not-false}
 use lib.Dec.{ltb, eqb}
 use lib.ListN.{length}
-use Rattle.layout.specs.Layout.{at, block_size_lem, payload_size, is_lanes}
+use Rattle.layout.specs.Layout.{at, block_size, payload_size, is_lanes}
 use Rattle.layout.specs.Width.{fits}
 use Rattle.modes.specs.declared.Mode.{Mode}
 use Rattle.modes.specs.Entries.{entries}
@@ -34,14 +34,14 @@ size_exactly L n = (there, λ s. rw (s.lanes, le-ltb 32 n s.width))
 pub record Packable (L : ℕ) (m : Mode) (vs : List ℕ) (room n : ℕ) : Type 0 where
   pub lanes : is_lanes L ≡ true
   pub width : n ≤ 32
-  pub block : length vs ≡ block_size_lem L
+  pub block : length vs ≡ block_size L
   pub enough : payload_size L n ≤ room
-  pub fit : fits (entries m (at vs)) (block_size_lem L) n ≡ true
+  pub fit : fits (entries m (at vs)) (block_size L) n ≡ true
 
 pub pack_exactly : (L : ℕ) (m : Mode) (vs : List ℕ) (room n : ℕ) → (accepted (pack_refusal L m vs room n) ≡ true) ↔ Packable L m vs room n
 pack_exactly L m vs room n = (
   there,
-  λ s. rw (s.lanes, le-ltb 32 n s.width, eq-eqb (length vs) (block_size_lem L) s.block, le-ltb room (payload_size L n) s.enough, s.fit),
+  λ s. rw (s.lanes, le-ltb 32 n s.width, eq-eqb (length vs) (block_size L) s.block, le-ltb room (payload_size L n) s.enough, s.fit),
 )
   where
     there : accepted (pack_refusal L m vs room n) ≡ true → Packable L m vs room n
@@ -54,7 +54,7 @@ pack_exactly L m vs room n = (
         record {
           lanes = not-false _ a.0;
           width = ltb-false 32 n b.0;
-          block = eqb-true (length vs) (block_size_lem L) (not-false _ c.0);
+          block = eqb-true (length vs) (block_size L) (not-false _ c.0);
           enough = ltb-false room (payload_size L n) d.0;
           fit = not-false _ e.0;
         }
@@ -63,13 +63,13 @@ pack_exactly L m vs room n = (
 pub record Unpackable (L size room n : ℕ) : Type 0 where
   pub lanes : is_lanes L ≡ true
   pub width : n ≤ 32
-  pub enough : block_size_lem L ≤ room
+  pub enough : block_size L ≤ room
   pub whole : payload_size L n ≤ size
 
 pub unpack_exactly : (L size room n : ℕ) → (accepted (unpack_refusal L size room n) ≡ true) ↔ Unpackable L size room n
 unpack_exactly L size room n = (
   there,
-  λ s. rw (s.lanes, le-ltb 32 n s.width, le-ltb room (block_size_lem L) s.enough, le-ltb size (payload_size L n) s.whole),
+  λ s. rw (s.lanes, le-ltb 32 n s.width, le-ltb room (block_size L) s.enough, le-ltb size (payload_size L n) s.whole),
 )
   where
     there : accepted (unpack_refusal L size room n) ≡ true → Unpackable L size room n
@@ -81,20 +81,20 @@ unpack_exactly L size room n = (
         record {
           lanes = not-false _ a.0;
           width = ltb-false 32 n b.0;
-          enough = ltb-false room (block_size_lem L) c.0;
+          enough = ltb-false room (block_size L) c.0;
           whole = ltb-false size (payload_size L n) d.0;
         }
 
 -- what width finding accepts
 pub record Measurable (L count : ℕ) : Type 0 where
   pub lanes : is_lanes L ≡ true
-  pub block : count ≡ block_size_lem L
+  pub block : count ≡ block_size L
 
 pub width_exactly : (L count : ℕ) → (accepted (width_refusal L count) ≡ true) ↔ Measurable L count
-width_exactly L count = (there, λ s. rw (s.lanes, eq-eqb count (block_size_lem L) s.block))
+width_exactly L count = (there, λ s. rw (s.lanes, eq-eqb count (block_size L) s.block))
   where
     there : accepted (width_refusal L count) ≡ true → Measurable L count
     there h =
-        let a = passed _ BadLanes (refuse (not (eqb count (block_size_lem L))) BadBlock Accepted) refl h in
+        let a = passed _ BadLanes (refuse (not (eqb count (block_size L))) BadBlock Accepted) refl h in
         let b = passed _ BadBlock Accepted refl a.1 in
-        record { lanes = not-false _ a.0; block = eqb-true count (block_size_lem L) (not-false _ b.0) }
+        record { lanes = not-false _ a.0; block = eqb-true count (block_size L) (not-false _ b.0) }

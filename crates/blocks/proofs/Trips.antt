@@ -6,7 +6,7 @@ use native.Mathlib.Nat.{lt_of_lt_of_le}
 use native.Mathlib.Omega.{arith}
 use lib.ListN.{length, drop, length-append}
 use lib.Pow.{pow_mono}
-use Rattle.layout.specs.Layout.{at, block_size_lem, payload_size, packed, payload_entry}
+use Rattle.layout.specs.Layout.{at, block_size, payload_size, packed, payload_entry}
 use Rattle.answers.specs.Answers.{over}
 use Rattle.answers.proofs.Answers.{overwritten}
 use Rattle.layout.specs.Width.{fits}
@@ -24,21 +24,21 @@ use Rattle.blocks.proofs.Tests.{Packable, pack_exactly, unpack_exactly}
 pub packed_unpacked : BlockBack
 unfolding unpacked
 packed_unpacked L m vs n rest first size words fit =
-    table_of (values m (payload_entry L n (packed L n (entries m (at vs)) ++ rest))) (block_size_lem L) vs size
+    table_of (values m (payload_entry L n (packed L n (entries m (at vs)) ++ rest))) (block_size L) vs size
     (λ k h. sym (values_ext m (first_of m) (payload_entry L n (packed L n (entries m (at vs)) ++ rest)) (entries m (at vs)) k (λ i le. entry_packed L n (entries m (at vs)) rest (of_fits _ _ _ fit) i (omega arith))
     ∙ values_entries m (at vs) first k (λ i le. words i)))
 
 -- the entries of an unpacked block are those of its payload
 module _ (L : ℕ) (m : Mode) (bs : List ℕ) (n : ℕ) (first : first_of m < 2 ^ 32) (narrow : n ≤ 32) where
-  unpacked_entries : (k : ℕ) → k < block_size_lem L → entries m (at (unpacked L m bs n)) k ≡ payload_entry L n bs k
+  unpacked_entries : (k : ℕ) → k < block_size L → entries m (at (unpacked L m bs n)) k ≡ payload_entry L n bs k
   unfolding unpacked
   unpacked_entries k h =
-      entries_ext m (at (unpacked L m bs n)) (values m (payload_entry L n bs)) k (λ i le. table_at (values m (payload_entry L n bs)) (block_size_lem L) i (omega arith))
+      entries_ext m (at (unpacked L m bs n)) (values m (payload_entry L n bs)) k (λ i le. table_at (values m (payload_entry L n bs)) (block_size L) i (omega arith))
       ∙ entries_values m (payload_entry L n bs) first k (λ i le. lt_of_lt_of_le (entry_fits L n bs i) (pow_mono narrow))
 
 -- any bytes, unpacked, fit the width that they were unpacked at
 pub unpacked_fits : UnpackedFits
-unpacked_fits L m bs n first narrow = fits_of _ (block_size_lem L) n (λ k h. rw (unpacked_entries L m bs n first narrow k h) (entry_fits L n bs k))
+unpacked_fits L m bs n first narrow = fits_of _ (block_size L) n (λ k h. rw (unpacked_entries L m bs n first narrow k h) (entry_fits L n bs k))
 
 -- any payload, unpacked and packed at the same width, is the payload
 pub unpacked_packed : PayloadBack

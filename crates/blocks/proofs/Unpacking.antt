@@ -7,7 +7,7 @@ use native.Mathlib.Omega.{arith}
 use native.Mathlib.Decide.{dec_lt}
 use lib.Bits.{bit_or, bit_and}
 use lib.ListN.{length}
-use Rattle.layout.specs.Layout.{at, block_size_lem, table, byte_bits, payload_entry, word_at}
+use Rattle.layout.specs.Layout.{at, block_size, table, byte_bits, payload_entry, word_at}
 use Rattle.answers.specs.Answers.{over}
 use Rattle.lanes.specs.Rows.{IsRow}
 use Rattle.blocks.specs.kernel.Places.{RowOf, RowStored}
@@ -79,7 +79,7 @@ unpack_more {L} {g} {before} {r} {out} u {v} {after} is t =
         let e : r * L + l ≡ k = omega arith in
         sym (ap (at after) e) ∙ t.inside l i ∙ is l i ∙ ap g e
 
-pub unpack_end : {L : ℕ} {g : ℕ → ℕ} {before : List ℕ} {r : ℕ} {out : List ℕ} → Unpacking L g before r out → r ≡ 32 → block_size_lem L ≤ length before
-    → out ≡ over (table g (block_size_lem L)) before
+pub unpack_end : {L : ℕ} {g : ℕ → ℕ} {before : List ℕ} {r : ℕ} {out : List ℕ} → Unpacking L g before r out → r ≡ 32 → block_size L ≤ length before
+    → out ≡ over (table g (block_size L)) before
 unpack_end {L} {g} {before} {r} {out} u e fits =
-    front_table g (block_size_lem L) before out u.size fits (λ k h. u.done k (rw e h)) (λ k h. u.rest k (rw e h))
+    front_table g (block_size L) before out u.size fits (λ k h. u.done k (rw e h)) (λ k h. u.rest k (rw e h))

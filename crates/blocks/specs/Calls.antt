@@ -5,7 +5,7 @@ use Rattle.answers.specs.declared.Refusal.{Refusal}
 use Rattle.answers.specs.declared.Refusal.TheVariants.{Accepted, BadLanes, BadWidth, BadBlock, NoRoom, CutShort, TooWide}
 use Rattle.answers.specs.Refusals.{accepted, refuse}
 use Rattle.answers.specs.Answers.{answer, written}
-use Rattle.layout.specs.Layout.{at, is_lanes, block_size_lem, payload_size, table, packed, payload_entry}
+use Rattle.layout.specs.Layout.{at, is_lanes, block_size, payload_size, table, packed, payload_entry}
 use Rattle.layout.specs.Width.{fits, least_width}
 use Rattle.modes.specs.declared.Mode.{Mode}
 use Rattle.modes.specs.Entries.{entries, values}
@@ -27,9 +27,9 @@ abbrev pub pack_refusal : ℕ → Mode → List ℕ → ℕ → ℕ → Refusal
 pack_refusal L m vs room n =
     refuse (not (is_lanes L)) BadLanes
     (refuse (ltb 32 n) BadWidth
-    (refuse (not (eqb (length vs) (block_size_lem L))) BadBlock
+    (refuse (not (eqb (length vs) (block_size L))) BadBlock
     (refuse (ltb room (payload_size L n)) NoRoom
-    (refuse (not (fits (entries m (at vs)) (block_size_lem L) n)) TooWide
+    (refuse (not (fits (entries m (at vs)) (block_size L) n)) TooWide
     Accepted))))
 
 -- "Pack takes exactly B values and at least 4Ln bytes of output, writes the first 4Ln and answers 4Ln."
@@ -45,7 +45,7 @@ abbrev pub unpack_refusal : ℕ → ℕ → ℕ → ℕ → Refusal
 unpack_refusal L size room n =
     refuse (not (is_lanes L)) BadLanes
     (refuse (ltb 32 n) BadWidth
-    (refuse (ltb room (block_size_lem L)) NoRoom
+    (refuse (ltb room (block_size L)) NoRoom
     (refuse (ltb size (payload_size L n)) CutShort
     Accepted)))
 
@@ -55,7 +55,7 @@ unpack_answer L size room n = answer (unpack_refusal L size room n) (payload_siz
 
 -- the values of the payload that the bytes bs start with
 unfoldable pub unpacked : ℕ → Mode → List ℕ → ℕ → List ℕ
-unpacked L m bs n = table (values m (payload_entry L n bs)) (block_size_lem L)
+unpacked L m bs n = table (values m (payload_entry L n bs)) (block_size L)
 
 -- ".. and unpacking still writes B values" at width 0
 abbrev pub unpack_output : ℕ → Mode → List ℕ → List ℕ → ℕ → List ℕ
@@ -65,7 +65,7 @@ unpack_output L m bs before n = written (unpack_refusal L (length bs) (length be
 abbrev pub width_refusal : ℕ → ℕ → Refusal
 width_refusal L count =
     refuse (not (is_lanes L)) BadLanes
-    (refuse (not (eqb count (block_size_lem L))) BadBlock
+    (refuse (not (eqb count (block_size L))) BadBlock
     Accepted)
 
 -- the least width of the block vs, or the refusal and "width 0"
@@ -73,5 +73,5 @@ abbrev pub width_answer : ℕ → Mode → List ℕ → Width
 width_answer L m vs =
     record {
       refusal = width_refusal L (length vs);
-      width = cond (accepted (width_refusal L (length vs))) (least_width (entries m (at vs)) (block_size_lem L)) 0;
+      width = cond (accepted (width_refusal L (length vs))) (least_width (entries m (at vs)) (block_size L)) 0;
     }

@@ -10,7 +10,7 @@ use native.Mathlib.Decide.{dec_lt}
 use lib.ListN.{length, take, drop, length-append, length-drop, get_or-eq_default, take-append-drop}
 use lib.Pow.{pow_mono}
 use lib.Seq.{drop_at, take-append-add}
-use Rattle.layout.specs.Layout.{at, Below, block_size_lem, payload_size, packed}
+use Rattle.layout.specs.Layout.{at, Below, block_size, payload_size, packed}
 use Rattle.layout.proofs.Below.{below_drop, below_table, table_past}
 use Rattle.layout.proofs.Tables.{table_at, table_of, table_ext, length_table, length_packed}
 use Rattle.layout.proofs.RoundTrip.{entry_fits, entry_packed, packed_entry, packed_ext}
@@ -25,13 +25,13 @@ use Rattle.bodies.proofs.Tests.{Passed}
 -- a block that passes is what is written for its entries
 
 module _ (L : ℕ) (m : Mode) (k : ℕ) (bs : List ℕ) (p : Passed L m k bs) where
-  filled_at : (i : ℕ) → i < block_size_lem L → entry_at L bs i ≡ filled (entries_at L k bs) i
+  filled_at : (i : ℕ) → i < block_size L → entry_at L bs i ≡ filled (entries_at L k bs) i
   filled_at i h = go (dec_lt i k)
     where
       go : Dec (i < k) → entry_at L bs i ≡ filled (entries_at L k bs) i
       go (yes lt) = sym (table_at (entry_at L bs) k i lt)
       go (no ge) =
-          let z = of_fits (λ j. entry_at L bs (k + j)) (block_size_lem L - k) 0 p.entries.filling (i - k) (omega arith) in
+          let z = of_fits (λ j. entry_at L bs (k + j)) (block_size L - k) 0 p.entries.filling (i - k) (omega arith) in
           let e : k + (i - k) ≡ i = omega arith in
           let y : entry_at L bs i < 1 = rw e at z in
           let x : entry_at L bs i ≡ 0 = omega arith in
@@ -72,13 +72,13 @@ module _ (L : ℕ) (m : Mode) (k : ℕ) (bs : List ℕ) (p : Passed L m k bs) wh
 
 -- what is written passes, and its entries are had back, whatever stands behind it
 
-module _ (L : ℕ) (es rest : List ℕ) (size : length es ≤ block_size_lem L) (small : Below (2 ^ 32) es) where
-  fit : Fit (filled es) (block_size_lem L) 32
+module _ (L : ℕ) (es rest : List ℕ) (size : length es ≤ block_size L) (small : Below (2 ^ 32) es) where
+  fit : Fit (filled es) (block_size L) 32
   fit i h = small i
 
-  entry_back : (i : ℕ) → i < block_size_lem L → entry_at L (block L es ++ rest) i ≡ filled es i
+  entry_back : (i : ℕ) → i < block_size L → entry_at L (block L es ++ rest) i ≡ filled es i
   unfolding block
-  entry_back i h = entry_packed L (width_of L es) (filled es) rest (width_least (filled es) (block_size_lem L) fit).fit i h
+  entry_back i h = entry_packed L (width_of L es) (filled es) rest (width_least (filled es) (block_size L) fit).fit i h
 
   pub entries_back : entries_at L (length es) (block L es ++ rest) ≡ es
   entries_back =
@@ -95,11 +95,11 @@ module _ (L : ℕ) (es rest : List ℕ) (size : length es ≤ block_size_lem L) 
       record {
         frame = record {
           some = omega arith;
-          narrow = width_small (filled es) (block_size_lem L) fit;
+          narrow = width_small (filled es) (block_size L) fit;
           whole = simp length-append (omega (arith, length_packed L (width_of L es) (filled es)));
         };
         entries = record {
-          filling = fits_of _ (block_size_lem L - length es) 0 (λ i h. rw (entry_back (length es + i) (omega arith), get_or-eq_default es 0 {n = length es + i} (omega arith)) (omega arith));
+          filling = fits_of _ (block_size L - length es) 0 (λ i h. rw (entry_back (length es + i) (omega arith), get_or-eq_default es 0 {n = length es + i} (omega arith)) (omega arith));
           least = sym (width_ext fit (λ i h. sym (entry_back i h)));
         };
         order = rw entries_back o;
@@ -111,11 +111,11 @@ pub record Again (L : ℕ) (m : Mode) (k : ℕ) (bs others rest : List ℕ) : Ty
   pub entries : entries_at L k others ≡ entries_at L k bs
   pub behind : drop (size_at L others) others ≡ rest
 
-pub again : (L : ℕ) (m : Mode) (k : ℕ) (bs others rest : List ℕ) → k ≤ block_size_lem L → Passed L m k bs → others ≡ block L (entries_at L k bs) ++ rest → Again L m k bs others rest
+pub again : (L : ℕ) (m : Mode) (k : ℕ) (bs others rest : List ℕ) → k ≤ block_size L → Passed L m k bs → others ≡ block L (entries_at L k bs) ++ rest → Again L m k bs others rest
 again L m k bs others rest size p is =
     let es : List ℕ = entries_at L k bs in
     let len : length es ≡ k = length_table (entry_at L bs) k in
-    let fits : length es ≤ block_size_lem L = omega arith in
+    let fits : length es ≤ block_size L = omega arith in
     let small : Below (2 ^ 32) es = entries_small L m k bs p in
     rw is
     (record {

@@ -10,7 +10,7 @@ use borrow.Author.Tests.{ltb-false}
 use lib.Dec.{ltb}
 use lib.ListN.{length, take, drop, length-drop, take-append-drop}
 use lib.Seq.{take-append_seam}
-use Rattle.layout.specs.Layout.{Below, block_size_lem}
+use Rattle.layout.specs.Layout.{Below, block_size}
 use Rattle.layout.proofs.Below.{below_take, below_drop}
 use Rattle.modes.specs.declared.Mode.{Mode}
 use Rattle.answers.specs.declared.Refusal.TheVariants.{Accepted, LeftOver}
@@ -32,26 +32,26 @@ use Rattle.bodies.proofs.Onward.{blocks_first}
 pub record Taken (L : ℕ) (m : Mode) (count : ℕ) (bs : List ℕ) (b : ℕ) (s : Stop) : Type 0 where
   pub within : s.place ≤ length bs
   pub fewer : s.blocks ≤ b
-  pub rest : s.left ≡ count - s.blocks * block_size_lem L
+  pub rest : s.left ≡ count - s.blocks * block_size L
   pub whole : accepted s.refusal ≡ true → (s.blocks ≡ b) × (s.place ≡ length bs)
   pub good : accepted (refusal_from L m (count - s.left) (take s.place bs) s.blocks) ≡ true
   pub next : s.mode ≡ after_all m (values_of m (entries_from L (count - s.left) (take s.place bs) s.blocks))
 
 -- one block more in front
-module _ (L : ℕ) (m : Mode) (count : ℕ) (bs : List ℕ) (b : ℕ) (s : Stop) (bytes : Below 256 bs) (e : accepted (block_refusal L m (min (block_size_lem L) count) bs) ≡ true)
-    (more : Taken L (after_all m (values_at L m (min (block_size_lem L) count) bs)) (count - block_size_lem L) (drop (size_at L bs) bs) b s) where
-  first : Passed L m (min (block_size_lem L) count) bs
-  first = block_passed L m (min (block_size_lem L) count) bs e
+module _ (L : ℕ) (m : Mode) (count : ℕ) (bs : List ℕ) (b : ℕ) (s : Stop) (bytes : Below 256 bs) (e : accepted (block_refusal L m (min (block_size L) count) bs) ≡ true)
+    (more : Taken L (after_all m (values_at L m (min (block_size L) count) bs)) (count - block_size L) (drop (size_at L bs) bs) b s) where
+  first : Passed L m (min (block_size L) count) bs
+  first = block_passed L m (min (block_size L) count) bs e
 
-  front : Again L m (min (block_size_lem L) count) bs (take (size_at L bs + s.place) bs) (take s.place (drop (size_at L bs) bs))
+  front : Again L m (min (block_size L) count) bs (take (size_at L bs + s.place) bs) (take s.place (drop (size_at L bs) bs))
   front =
-      again L m (min (block_size_lem L) count) bs (take (size_at L bs + s.place) bs) (take s.place (drop (size_at L bs) bs)) (min-le_left (block_size_lem L) count) first
-      (front_written L m (min (block_size_lem L) count) bs first bytes s.place)
+      again L m (min (block_size L) count) bs (take (size_at L bs + s.place) bs) (take s.place (drop (size_at L bs) bs)) (min-le_left (block_size L) count) first
+      (front_written L m (min (block_size L) count) bs first bytes s.place)
 
-  same : min (block_size_lem L) (count - s.left) ≡ min (block_size_lem L) count
+  same : min (block_size L) (count - s.left) ≡ min (block_size L) count
   same = omega (arith, more.rest)
 
-  less : count - s.left - block_size_lem L ≡ count - block_size_lem L - s.left
+  less : count - s.left - block_size L ≡ count - block_size L - s.left
   less = omega arith
 
   taken_more : Taken L m count bs (suc b) (past (taking L m count bs) s)
@@ -60,9 +60,9 @@ module _ (L : ℕ) (m : Mode) (count : ℕ) (bs : List ℕ) (b : ℕ) (s : Stop)
       record {
         within = omega (arith, first.frame.whole, more.within, length-drop (size_at L bs) bs);
         fewer = omega (arith, more.fewer);
-        rest = rw one-add (omega (arith, more.rest, suc_times s.blocks (block_size_lem L)));
+        rest = rw one-add (omega (arith, more.rest, suc_times s.blocks (block_size L)));
         whole = λ h. (omega (arith, (more.whole h).0), omega (arith, first.frame.whole, (more.whole h).1, length-drop (size_at L bs) bs));
-        good = rw (one-add s.blocks, same, block_passes L m (min (block_size_lem L) count) (take (size_at L bs + s.place) bs) front.passes, front.entries, front.behind, less) more.good;
+        good = rw (one-add s.blocks, same, block_passes L m (min (block_size L) count) (take (size_at L bs + s.place) bs) front.passes, front.entries, front.behind, less) more.good;
         next = more.next ∙ rw (one-add s.blocks, same, front.entries, front.behind, less, values_append, after_append);
       }
 
@@ -72,23 +72,23 @@ taken zero L m count bs bytes =
     record {
       within = omega arith;
       fewer = omega arith;
-      rest = omega (arith, zero-mul (block_size_lem L));
+      rest = omega (arith, zero-mul (block_size L));
       whole = λ h. (refl, omega (arith, ltb-false 0 (length bs) (passed (ltb 0 (length bs)) LeftOver Accepted refl h).0));
       good = refl;
       next = refl;
     }
-taken (suc b) L m count bs bytes = go (accepted (block_refusal L m (min (block_size_lem L) count) bs)) refl (taken b L _ (count - block_size_lem L) (drop (size_at L bs) bs) (below_drop (size_at L bs) bs bytes))
+taken (suc b) L m count bs bytes = go (accepted (block_refusal L m (min (block_size L) count) bs)) refl (taken b L _ (count - block_size L) (drop (size_at L bs) bs) (below_drop (size_at L bs) bs bytes))
   where
-    go : (t : Bool) → accepted (block_refusal L m (min (block_size_lem L) count) bs) ≡ t
-        → Taken L (after_all m (values_at L m (min (block_size_lem L) count) bs)) (count - block_size_lem L) (drop (size_at L bs) bs) b
-        (stop_from L (after_all m (values_at L m (min (block_size_lem L) count) bs)) (count - block_size_lem L) (drop (size_at L bs) bs) b)
+    go : (t : Bool) → accepted (block_refusal L m (min (block_size L) count) bs) ≡ t
+        → Taken L (after_all m (values_at L m (min (block_size L) count) bs)) (count - block_size L) (drop (size_at L bs) bs) b
+        (stop_from L (after_all m (values_at L m (min (block_size L) count) bs)) (count - block_size L) (drop (size_at L bs) bs) b)
         → Taken L m count bs (suc b) (stop_from L m count bs (suc b))
     go false e more =
         rw (stop_refused L m count bs e b)
         (record {
           within = omega arith;
           fewer = omega arith;
-          rest = omega (arith, zero-mul (block_size_lem L));
+          rest = omega (arith, zero-mul (block_size L));
           whole = λ h. absurd (apart (sym h ∙ e));
           good = refl;
           next = refl;
@@ -97,23 +97,23 @@ taken (suc b) L m count bs bytes = go (accepted (block_refusal L m (min (block_s
 
 -- no more can be taken: j blocks that begin the bytes are no more than were taken, where they are accepted by themselves
 pub most_taken : (j b L : ℕ) (m : Mode) (count : ℕ) (bs : List ℕ) (p : ℕ) → j ≤ b → Below 256 bs
-    → accepted (refusal_from L m (min count (j * block_size_lem L)) (take p bs) j) ≡ true → j ≤ (stop_from L m count bs b).blocks
+    → accepted (refusal_from L m (min count (j * block_size L)) (take p bs) j) ≡ true → j ≤ (stop_from L m count bs b).blocks
 unfolding refusal_from
 most_taken zero b L m count bs p few bytes h = omega arith
 most_taken (suc j) zero L m count bs p few bytes h = absurd (omega arith)
 most_taken (suc j) (suc b) L m count bs p few bytes h =
-    let k : ℕ = min (block_size_lem L) count in
-    let c : ℕ = min count (suc j * block_size_lem L) in
+    let k : ℕ = min (block_size L) count in
+    let c : ℕ = min count (suc j * block_size L) in
     let first : List ℕ = take p bs in
     let rest : List ℕ = drop (size_at L first) first in
-    let same : min (block_size_lem L) c ≡ k = omega (arith, suc_times j (block_size_lem L)) in
-    let less : c - block_size_lem L ≡ min (count - block_size_lem L) (j * block_size_lem L) = omega (arith, suc_times j (block_size_lem L)) in
-    let o = both (block_refusal L m (min (block_size_lem L) c) first) _ h in
+    let same : min (block_size L) c ≡ k = omega (arith, suc_times j (block_size L)) in
+    let less : c - block_size L ≡ min (count - block_size L) (j * block_size L) = omega (arith, suc_times j (block_size L)) in
+    let o = both (block_refusal L m (min (block_size L) c) first) _ h in
     let q : Passed L m k first = block_passed L m k first (rw same at o.0) in
     let whole : bs ≡ block L (entries_at L k first) ++ (rest ++ drop p bs) =
     sym (take-append-drop p bs) ∙ ap (λ (t : List ℕ). t ++ drop p bs) (block_written L m k first q (below_take p bs bytes)) ∙ append_assoc (block L (entries_at L k first)) rest (drop p bs) in
-    let a : Again L m k first bs (rest ++ drop p bs) = again L m k first bs (rest ++ drop p bs) (min-le_left (block_size_lem L) count) q whole in
-    let more = most_taken j b L (after_all m (values_at L m k bs)) (count - block_size_lem L) (drop (size_at L bs) bs) (length rest) (omega arith) (below_drop (size_at L bs) bs bytes)
+    let a : Again L m k first bs (rest ++ drop p bs) = again L m k first bs (rest ++ drop p bs) (min-le_left (block_size L) count) q whole in
+    let more = most_taken j b L (after_all m (values_at L m k bs)) (count - block_size L) (drop (size_at L bs) bs) (length rest) (omega arith) (below_drop (size_at L bs) bs bytes)
     (rw (a.entries, a.behind, take-append_seam rest (drop p bs), ← less, ← same) o.1) in
     rw (stop_taken L m count bs (block_passes L m k bs a.passes) b) (omega (arith, more))
 
@@ -126,13 +126,13 @@ module _ (L : ℕ) (lanes : 0 < L) (m : Mode) (count : ℕ) (bs : List ℕ) (byt
   pub kept_fewer : (body_stop L m count bs).blocks ≤ block_count L count
   kept_fewer = all_taken.fewer
 
-  pub kept_left : (body_stop L m count bs).left ≡ count - (body_stop L m count bs).blocks * block_size_lem L
+  pub kept_left : (body_stop L m count bs).left ≡ count - (body_stop L m count bs).blocks * block_size L
   kept_left = all_taken.rest
 
   pub kept_inside : (body_stop L m count bs).place ≤ length bs
   kept_inside = all_taken.within
 
-  kept_count : count - (body_stop L m count bs).left ≡ min count ((body_stop L m count bs).blocks * block_size_lem L)
+  kept_count : count - (body_stop L m count bs).left ≡ min count ((body_stop L m count bs).blocks * block_size L)
   kept_count = omega (arith, all_taken.rest)
 
   kept_blocks : block_count L (count - (body_stop L m count bs).left) ≡ (body_stop L m count bs).blocks
@@ -148,7 +148,7 @@ module _ (L : ℕ) (lanes : 0 < L) (m : Mode) (count : ℕ) (bs : List ℕ) (byt
   pub kept_whole : accepted (body_refusal L m count bs) ≡ true → ((body_stop L m count bs).left ≡ 0) × ((body_stop L m count bs).place ≡ length bs)
   kept_whole h =
       let w = all_taken.whole (rw (stop_refusal (block_count L count) L m count bs) h) in
-      (omega (arith, all_taken.rest, ap (λ (t : ℕ). t * block_size_lem L) w.0, blocks_enough L count lanes), w.1)
+      (omega (arith, all_taken.rest, ap (λ (t : ℕ). t * block_size L) w.0, blocks_enough L count lanes), w.1)
 
-  pub kept_most : (j p : ℕ) → j ≤ block_count L count → accepted (body_refusal L m (min count (j * block_size_lem L)) (take p bs)) ≡ true → j ≤ (body_stop L m count bs).blocks
+  pub kept_most : (j p : ℕ) → j ≤ block_count L count → accepted (body_refusal L m (min count (j * block_size L)) (take p bs)) ≡ true → j ≤ (body_stop L m count bs).blocks
   kept_most j p few h = most_taken j (block_count L count) L m count bs p few bytes (rw (blocks_first L lanes j count few) at h)

@@ -8,7 +8,7 @@ use native.Mathlib.Decide.{dec_lt}
 use borrow.Author.Tests.{leb-true, ltb-true}
 use lib.Dec.{leb, ltb}
 use lib.ListN.{length, take, drop, get_or, length-append, take-append-drop}
-use Rattle.layout.specs.Layout.{Below, block_size_lem, is_lanes}
+use Rattle.layout.specs.Layout.{Below, block_size, is_lanes}
 use Rattle.layout.proofs.LaneCounts.{for_lanes}
 use Rattle.layout.proofs.Widths.{and_both, fits_of, fits_exactly, width_most}
 use Rattle.modes.specs.declared.Initial.{Initial}
@@ -44,13 +44,13 @@ one_of (e ∷ es) (suc k) = omega (arith, one_of es k)
 
 narrow_width : (L : ℕ) (es : List ℕ) → total es < 2 ^ 31 → width_of L es ≤ 31
 narrow_width L es h =
-    (fits_exactly (filled es) (block_size_lem L) 31 (λ k lt. omega (arith, one_of es k))).0 (fits_of (filled es) (block_size_lem L) 31 (λ k lt. omega (arith, one_of es k)))
+    (fits_exactly (filled es) (block_size L) 31 (λ k lt. omega (arith, one_of es k))).0 (fits_of (filled es) (block_size L) 31 (λ k lt. omega (arith, one_of es k)))
 
 narrow_blocks : (L : ℕ) (es : List ℕ) (b : ℕ) → total es < 2 ^ 31 → length (blocks_of L es b) ≤ b * (1 + 4 * L * 31)
 unfolding blocks_of
 narrow_blocks L es zero h = omega arith
 narrow_blocks L es (suc b) h =
-    let n : ℕ = block_size_lem L in
+    let n : ℕ = block_size L in
     let p = total_parts n es in
     rw length-append (omega (arith, block_long L 31 (take n es) (narrow_width L (take n es) (omega arith)), narrow_blocks L (drop n es) b (omega arith)))
 
@@ -59,12 +59,12 @@ one_wide_block : (L : ℕ) (es : List ℕ) (b : ℕ) → total es < 2 ^ 32 → l
 unfolding blocks_of
 one_wide_block L es zero h = omega arith
 one_wide_block L es (suc b) h =
-    go (one_wide_block L (drop (block_size_lem L) es) b (omega (arith, total_parts (block_size_lem L) es))) (dec_lt (total (take (block_size_lem L) es)) (2 ^ 31))
+    go (one_wide_block L (drop (block_size L) es) b (omega (arith, total_parts (block_size L) es))) (dec_lt (total (take (block_size L) es)) (2 ^ 31))
   where
     n : ℕ
-    n = block_size_lem L
+    n = block_size L
 
-    go : length (blocks_of L (drop (block_size_lem L) es) b) ≤ b * (1 + 4 * L * 31) + 4 * L → Dec (total (take (block_size_lem L) es) < 2 ^ 31) → length (blocks_of L es (suc b)) ≤ suc b * (1 + 4 * L * 31) + 4 * L
+    go : length (blocks_of L (drop (block_size L) es) b) ≤ b * (1 + 4 * L * 31) + 4 * L → Dec (total (take (block_size L) es) < 2 ^ 31) → length (blocks_of L es (suc b)) ≤ suc b * (1 + 4 * L * 31) + 4 * L
     go rest (yes less) = rw length-append (omega (arith, block_long L 31 (take n es) (narrow_width L (take n es) less)))
     go rest (no more) = rw length-append (omega (arith, block_long L 32 (take n es) (width_most (filled (take n es)) n), narrow_blocks L (drop n es) b (omega (arith, total_parts n es))))
 

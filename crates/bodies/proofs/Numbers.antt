@@ -4,7 +4,7 @@ use mathlib.Core.List.{List}
 use Prim.Native.Nat.{ℕ, zero, suc, ◌+◌, ◌-◌}
 use lib.Dec.{ltb, eqb}
 use lib.ListN.{length}
-use Rattle.layout.specs.Layout.{block_size_lem}
+use Rattle.layout.specs.Layout.{block_size}
 use Rattle.layout.specs.Width.{least_width}
 use Rattle.modes.specs.declared.Mode.{Mode}
 use Rattle.answers.specs.declared.Refusal.{Refusal}
@@ -24,8 +24,8 @@ module _ (P : Refusal → Type 0) (none : P Accepted) (wide : P BadWidth) (cut :
       refused P (ltb (length bs) 1) CutShort _ cut
       (refused P (ltb 32 (width_at bs)) BadWidth _ wide
       (refused P (ltb (length bs) (size_at L bs)) CutShort _ cut
-      (refused P (not (all_zero (λ i. entry_at L bs (k + i)) (block_size_lem L - k))) BadFill _ fill
-      (refused P (not (eqb (width_at bs) (least_width (entry_at L bs) (block_size_lem L)))) NotLeast _ least
+      (refused P (not (all_zero (λ i. entry_at L bs (k + i)) (block_size L - k))) BadFill _ fill
+      (refused P (not (eqb (width_at bs) (least_width (entry_at L bs) (block_size L)))) NotLeast _ least
       (values_only m (values_at L m k bs))))))
 
   from : (L : ℕ) (m : Mode) (count : ℕ) (bs : List ℕ) (b : ℕ) → P (refusal_from L m count bs b)

@@ -6,7 +6,7 @@ use Prim.Native.Nat.{ℕ, zero, suc, ◌+◌, ◌*◌, ◌-◌, ◌≤◌, ◌<�
 use native.Mathlib.Nat.{mul-le-mul, zero-mul, sub-add-min_cancel, min_comm}
 use native.Mathlib.Omega.{arith}
 use lib.ListN.{length, take, drop, length-append}
-use Rattle.layout.specs.Layout.{block_size_lem, is_lanes}
+use Rattle.layout.specs.Layout.{block_size, is_lanes}
 use Rattle.layout.proofs.Tables.{length_packed, length_table}
 use Rattle.layout.proofs.Widths.{width_most}
 use Rattle.modes.specs.declared.Mode.{Mode}
@@ -26,13 +26,13 @@ block_long L w es h =
     rw length_packed (omega arith)
 
 block_short : (L : ℕ) (es : List ℕ) → length (block L es) ≤ 1 + 4 * L * 32
-block_short L es = block_long L 32 es (width_most (filled es) (block_size_lem L))
+block_short L es = block_long L 32 es (width_most (filled es) (block_size L))
 
 blocks_short : (L : ℕ) (es : List ℕ) (b : ℕ) → length (blocks_of L es b) ≤ b * (1 + 128 * L)
 unfolding blocks_of
 blocks_short L es zero = omega arith
 blocks_short L es (suc b) =
-    let n : ℕ = block_size_lem L in
+    let n : ℕ = block_size L in
     rw length-append (omega (arith, block_short L (take n es), blocks_short L (drop n es) b))
 
 -- 128 blocks of 129 bytes with 1 lane, 32 of 513 with 4, 16 of 1,025 with 8
@@ -44,14 +44,14 @@ body_short =
     (λ m vs few. omega (arith, blocks_short 4 (entries_of m vs) (block_count 4 (length vs))))
     (λ m vs few. omega (arith, blocks_short 8 (entries_of m vs) (block_count 8 (length vs))))
 
-length_from : (L count : ℕ) (bs : List ℕ) (b : ℕ) → count ≤ b * block_size_lem L → length (entries_from L count bs b) ≡ count
+length_from : (L count : ℕ) (bs : List ℕ) (b : ℕ) → count ≤ b * block_size L → length (entries_from L count bs b) ≡ count
 unfolding entries_from
-length_from L count bs zero h = omega (arith, zero-mul (block_size_lem L))
+length_from L count bs zero h = omega (arith, zero-mul (block_size L))
 length_from L count bs (suc b) h =
-    let k : ℕ = min (block_size_lem L) count in
-    let ih = length_from L (count - block_size_lem L) (drop (size_at L bs) bs) b (omega (arith, suc_times b (block_size_lem L))) in
-    length-append (entries_at L k bs) (entries_from L (count - block_size_lem L) (drop (size_at L bs) bs) b)
-    ∙ rw (length_table (entry_at L bs) k, ih) (omega (arith, sub-add-min_cancel count (block_size_lem L), min_comm count (block_size_lem L)))
+    let k : ℕ = min (block_size L) count in
+    let ih = length_from L (count - block_size L) (drop (size_at L bs) bs) b (omega (arith, suc_times b (block_size L))) in
+    length-append (entries_at L k bs) (entries_from L (count - block_size L) (drop (size_at L bs) bs) b)
+    ∙ rw (length_table (entry_at L bs) k, ih) (omega (arith, sub-add-min_cancel count (block_size L), min_comm count (block_size L)))
 
 -- whatever the bytes are
 pub length_list : (L : ℕ) → 0 < L → (m : Mode) (count : ℕ) (bs : List ℕ) → length (list_of L m count bs) ≡ count

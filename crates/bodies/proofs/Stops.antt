@@ -5,7 +5,7 @@ use mathlib.Core.List.{List}
 use Prim.Native.Nat.{ℕ, zero, suc, ◌-◌, ◌<◌, min}
 use native.Mathlib.Nat.{add_assoc}
 use lib.ListN.{drop}
-use Rattle.layout.specs.Layout.{block_size_lem}
+use Rattle.layout.specs.Layout.{block_size}
 use Rattle.modes.specs.declared.Mode.{Mode}
 use Rattle.answers.specs.declared.Refusal.TheVariants.{Accepted}
 use Rattle.answers.specs.Refusals.{accepted}
@@ -20,9 +20,9 @@ use Rattle.bodies.proofs.Onward.{blocks_none, blocks_next}
 -- a block is taken, or it is refused
 module _ (L : ℕ) (m : Mode) (count : ℕ) (bs : List ℕ) where
   abbrev pub taking : Stop
-  taking = record { refusal = Accepted; blocks = 1; place = size_at L bs; left = count - block_size_lem L; mode = after_all m (values_at L m (min (block_size_lem L) count) bs) }
+  taking = record { refusal = Accepted; blocks = 1; place = size_at L bs; left = count - block_size L; mode = after_all m (values_at L m (min (block_size L) count) bs) }
 
-  module _ (e : accepted (block_refusal L m (min (block_size_lem L) count) bs) ≡ true) where
+  module _ (e : accepted (block_refusal L m (min (block_size L) count) bs) ≡ true) where
     pub block_taken : block_stop L m count bs ≡ taking
     unfolding block_stop
     block_taken = rw e
@@ -31,19 +31,19 @@ module _ (L : ℕ) (m : Mode) (count : ℕ) (bs : List ℕ) where
     unfolding stop_from
     stop_taken b = rw block_taken
 
-  module _ (e : accepted (block_refusal L m (min (block_size_lem L) count) bs) ≡ false) where
-    pub block_refused : block_stop L m count bs ≡ nothing (block_refusal L m (min (block_size_lem L) count) bs) count m
+  module _ (e : accepted (block_refusal L m (min (block_size L) count) bs) ≡ false) where
+    pub block_refused : block_stop L m count bs ≡ nothing (block_refusal L m (min (block_size L) count) bs) count m
     unfolding block_stop
     block_refused = rw e
 
-    pub stop_refused : (b : ℕ) → stop_from L m count bs (suc b) ≡ nothing (block_refusal L m (min (block_size_lem L) count) bs) count m
+    pub stop_refused : (b : ℕ) → stop_from L m count bs (suc b) ≡ nothing (block_refusal L m (min (block_size L) count) bs) count m
     unfolding stop_from
     stop_refused b = rw (block_refused, e)
 
-  pub block_refusal_lem : (block_stop L m count bs).refusal ≡ block_refusal L m (min (block_size_lem L) count) bs
-  block_refusal_lem = go (accepted (block_refusal L m (min (block_size_lem L) count) bs)) refl
+  pub block_refusal_lem : (block_stop L m count bs).refusal ≡ block_refusal L m (min (block_size L) count) bs
+  block_refusal_lem = go (accepted (block_refusal L m (min (block_size L) count) bs)) refl
     where
-      go : (t : Bool) → accepted (block_refusal L m (min (block_size_lem L) count) bs) ≡ t → (block_stop L m count bs).refusal ≡ block_refusal L m (min (block_size_lem L) count) bs
+      go : (t : Bool) → accepted (block_refusal L m (min (block_size L) count) bs) ≡ t → (block_stop L m count bs).refusal ≡ block_refusal L m (min (block_size L) count) bs
       go true e = ap (λ (s : Stop). s.refusal) (block_taken e) ∙ sym (accepted_is _ e)
       go false e = ap (λ (s : Stop). s.refusal) (block_refused e)
 
@@ -54,12 +54,12 @@ module _ (L : ℕ) (lanes : 0 < L) (m : Mode) where
   stop_none bs = rw (blocks_none L lanes)
 
   module _ (count : ℕ) (bs : List ℕ) (pos : 0 < count) where
-    pub stop_here : accepted (block_refusal L m (min (block_size_lem L) count) bs) ≡ false → body_stop L m count bs ≡ nothing (block_refusal L m (min (block_size_lem L) count) bs) count m
-    stop_here e = rw (blocks_next L lanes count pos) (stop_refused L m count bs e (block_count L (count - block_size_lem L)))
+    pub stop_here : accepted (block_refusal L m (min (block_size L) count) bs) ≡ false → body_stop L m count bs ≡ nothing (block_refusal L m (min (block_size L) count) bs) count m
+    stop_here e = rw (blocks_next L lanes count pos) (stop_refused L m count bs e (block_count L (count - block_size L)))
 
-    pub stop_next : accepted (block_refusal L m (min (block_size_lem L) count) bs) ≡ true
-        → body_stop L m count bs ≡ past (taking L m count bs) (body_stop L (taking L m count bs).mode (count - block_size_lem L) (drop (size_at L bs) bs))
-    stop_next e = rw (blocks_next L lanes count pos) (stop_taken L m count bs e (block_count L (count - block_size_lem L)))
+    pub stop_next : accepted (block_refusal L m (min (block_size L) count) bs) ≡ true
+        → body_stop L m count bs ≡ past (taking L m count bs) (body_stop L (taking L m count bs).mode (count - block_size L) (drop (size_at L bs) bs))
+    stop_next e = rw (blocks_next L lanes count pos) (stop_taken L m count bs e (block_count L (count - block_size L)))
 
 pub past_past : (s t u : Stop) → past s (past t u) ≡ past (past s t) u
 past_past s t u = simp add_assoc
@@ -68,11 +68,11 @@ past_past s t u = simp add_assoc
 pub stop_refusal : (b L : ℕ) (m : Mode) (count : ℕ) (bs : List ℕ) → (stop_from L m count bs b).refusal ≡ refusal_from L m count bs b
 unfolding refusal_from stop_from
 stop_refusal zero L m count bs = refl
-stop_refusal (suc b) L m count bs = go (accepted (block_refusal L m (min (block_size_lem L) count) bs)) refl (stop_refusal b L _ (count - block_size_lem L) (drop (size_at L bs) bs))
+stop_refusal (suc b) L m count bs = go (accepted (block_refusal L m (min (block_size L) count) bs)) refl (stop_refusal b L _ (count - block_size L) (drop (size_at L bs) bs))
   where
-    go : (t : Bool) → accepted (block_refusal L m (min (block_size_lem L) count) bs) ≡ t
-        → (stop_from L (after_all m (values_at L m (min (block_size_lem L) count) bs)) (count - block_size_lem L) (drop (size_at L bs) bs) b).refusal
-        ≡ refusal_from L (after_all m (values_at L m (min (block_size_lem L) count) bs)) (count - block_size_lem L) (drop (size_at L bs) bs) b
+    go : (t : Bool) → accepted (block_refusal L m (min (block_size L) count) bs) ≡ t
+        → (stop_from L (after_all m (values_at L m (min (block_size L) count) bs)) (count - block_size L) (drop (size_at L bs) bs) b).refusal
+        ≡ refusal_from L (after_all m (values_at L m (min (block_size L) count) bs)) (count - block_size L) (drop (size_at L bs) bs) b
         → (stop_from L m count bs (suc b)).refusal ≡ refusal_from L m count bs (suc b)
     go true e rest = ap (λ (s : Stop). s.refusal) (stop_taken L m count bs e b) ∙ rw e rest
     go false e rest = ap (λ (s : Stop). s.refusal) (stop_refused L m count bs e b) ∙ rw e

@@ -8,7 +8,7 @@ use native.Mathlib.Decide.{ℕ_discrete}
 use borrow.Author.Tests.{ltb-false, lt-ltb, le-ltb, eqb-true, eq-eqb, ne_eqb, not-false}
 use lib.Dec.{ltb, eqb}
 use lib.ListN.{length}
-use Rattle.layout.specs.Layout.{block_size_lem}
+use Rattle.layout.specs.Layout.{block_size}
 use Rattle.layout.specs.Width.{fits, least_width}
 use Rattle.modes.specs.declared.Mode.{Mode}
 use Rattle.answers.specs.declared.Refusal.TheVariants.{Accepted, BadWidth, CutShort, OutOfOrder, NotLeast, BadFill}
@@ -53,14 +53,14 @@ zeros_fit e zero = refl
 zeros_fit e (suc m) = rw (zeros_fit e m, zero_tells (e m))
 
 -- "10, 9": filling that is not 0 is told before the width
-pub fill_first : (L : ℕ) (m : Mode) (k : ℕ) (bs : List ℕ) → Framed L bs → all_zero (λ i. entry_at L bs (k + i)) (block_size_lem L - k) ≡ false → block_refusal L m k bs ≡ BadFill
+pub fill_first : (L : ℕ) (m : Mode) (k : ℕ) (bs : List ℕ) → Framed L bs → all_zero (λ i. entry_at L bs (k + i)) (block_size L - k) ≡ false → block_refusal L m k bs ≡ BadFill
 unfolding block_refusal
 fill_first L m k bs f h = rw (le-ltb (length bs) 1 f.some, le-ltb 32 (width_at bs) f.narrow, le-ltb (length bs) (size_at L bs) f.whole, h)
 
 -- its entries are as they are written
 pub record Kept (L k n : ℕ) (e : ℕ → ℕ) : Type 0 where
-  pub filling : fits (λ i. e (k + i)) (block_size_lem L - k) 0 ≡ true
-  pub least : n ≡ least_width e (block_size_lem L)
+  pub filling : fits (λ i. e (k + i)) (block_size L - k) 0 ≡ true
+  pub least : n ≡ least_width e (block_size L)
 
 -- and its values are in order
 pub record Passed (L : ℕ) (m : Mode) (k : ℕ) (bs : List ℕ) : Type 0 where
@@ -79,7 +79,7 @@ block_passed L m k bs h =
     let v = passed _ OutOfOrder Accepted refl e.1 in
     record {
       frame = record { some = ltb-false _ _ a.0; narrow = ltb-false _ _ b.0; whole = ltb-false _ _ c.0 };
-      entries = record { filling = sym (zeros_fit (λ i. entry_at L bs (k + i)) (block_size_lem L - k)) ∙ not-false _ d.0; least = eqb-true _ _ (not-false _ e.0) };
+      entries = record { filling = sym (zeros_fit (λ i. entry_at L bs (k + i)) (block_size L - k)) ∙ not-false _ d.0; least = eqb-true _ _ (not-false _ e.0) };
       order = not-false _ v.0;
     }
 
@@ -91,8 +91,8 @@ block_passes L m k bs p =
       le-ltb (length bs) 1 f.some,
       le-ltb 32 (width_at bs) f.narrow,
       le-ltb (length bs) (size_at L bs) f.whole,
-      zeros_fit (λ i. entry_at L bs (k + i)) (block_size_lem L - k),
+      zeros_fit (λ i. entry_at L bs (k + i)) (block_size L - k),
       p.entries.filling,
-      eq-eqb (width_at bs) (least_width (entry_at L bs) (block_size_lem L)) p.entries.least,
+      eq-eqb (width_at bs) (least_width (entry_at L bs) (block_size L)) p.entries.least,
       p.order,
     )

@@ -11,7 +11,7 @@ use borrow.Author.Tests.{ltb-false}
 use lib.Dec.{ltb}
 use lib.ListN.{length, take, drop, length-append, length-drop, length-take, take-append-drop, drop_of_length-le}
 use lib.Seq.{take_at, drop_at, take_all}
-use Rattle.layout.specs.Layout.{Below, block_size_lem}
+use Rattle.layout.specs.Layout.{Below, block_size}
 use Rattle.layout.proofs.Products.{one_more}
 use Rattle.layout.proofs.Below.{below_none, below_append, below_take, below_drop}
 use Rattle.layout.proofs.Tables.{length_table}
@@ -55,27 +55,27 @@ pub record Written (L : ℕ) (m : Mode) (count : ℕ) (bs : List ℕ) (b : ℕ) 
   pub small : Below (2 ^ 32) es
   pub order : ordered m (values_of m es) ≡ true
 
-pub sound : (b L : ℕ) (m : Mode) (count : ℕ) (bs : List ℕ) → count ≤ b * block_size_lem L → Below 256 bs
+pub sound : (b L : ℕ) (m : Mode) (count : ℕ) (bs : List ℕ) → count ≤ b * block_size L → Below 256 bs
     → accepted (refusal_from L m count bs b) ≡ true → Written L m count bs b (entries_from L count bs b)
 unfolding refusal_from entries_from blocks_of values_of ordered
 sound zero L m count bs few bytes h =
     let a = passed (ltb 0 (length bs)) LeftOver Accepted refl h in
-    record { body = empty bs (ltb-false 0 (length bs) a.0); size = omega (arith, zero-mul (block_size_lem L)); small = below_none (omega arith); order = refl }
+    record { body = empty bs (ltb-false 0 (length bs) a.0); size = omega (arith, zero-mul (block_size L)); small = below_none (omega arith); order = refl }
 sound (suc b) L m count bs few bytes h =
-    let k : ℕ = min (block_size_lem L) count in
+    let k : ℕ = min (block_size L) count in
     let o = both (block_refusal L m k bs) _ h in
     let p : Passed L m k bs = block_passed L m k bs o.0 in
     let es : List ℕ = entries_at L k bs in
     let len : length es ≡ k = length_table (entry_at L bs) k in
     let w : Below (2 ^ 32) es = entries_small L m k bs p in
-    let rest : List ℕ = entries_from L (count - block_size_lem L) (drop (size_at L bs) bs) b in
-    let ih : Written L (after_all m (values_at L m k bs)) (count - block_size_lem L) (drop (size_at L bs) bs) b rest =
-    sound b L (after_all m (values_at L m k bs)) (count - block_size_lem L) (drop (size_at L bs) bs) (omega (arith, suc_times b (block_size_lem L)))
+    let rest : List ℕ = entries_from L (count - block_size L) (drop (size_at L bs) bs) b in
+    let ih : Written L (after_all m (values_at L m k bs)) (count - block_size L) (drop (size_at L bs) bs) b rest =
+    sound b L (after_all m (values_at L m k bs)) (count - block_size L) (drop (size_at L bs) bs) (omega (arith, suc_times b (block_size L)))
     (below_drop (size_at L bs) bs bytes) o.1 in
-    let f = front (block_size_lem L) es rest count len ih.size in
+    let f = front (block_size L) es rest count len ih.size in
     record {
       body = rw (f.0, f.1) (block_written L m k bs p bytes ∙ ap (λ (t : List ℕ). block L es ++ t) ih.body);
-      size = length-append es rest ∙ rw (len, ih.size) (omega (arith, sub-add-min_cancel count (block_size_lem L), min_comm count (block_size_lem L)));
+      size = length-append es rest ∙ rw (len, ih.size) (omega (arith, sub-add-min_cancel count (block_size L), min_comm count (block_size L)));
       small = below_append es rest w ih.small;
       order = rw (values_append, ordered_append, p.order) ih.order;
     }
@@ -86,13 +86,13 @@ pub record Had (L : ℕ) (m : Mode) (count : ℕ) (bs : List ℕ) (b : ℕ) (es 
   pub none : accepted (refusal_from L m count bs b) ≡ true
   pub list : entries_from L count bs b ≡ es
 
-pub complete : (b L : ℕ) (m : Mode) (es : List ℕ) → length es ≤ b * block_size_lem L → Below (2 ^ 32) es → ordered m (values_of m es) ≡ true → Had L m (length es) (blocks_of L es b) b es
+pub complete : (b L : ℕ) (m : Mode) (es : List ℕ) → length es ≤ b * block_size L → Below (2 ^ 32) es → ordered m (values_of m es) ≡ true → Had L m (length es) (blocks_of L es b) b es
 unfolding refusal_from entries_from blocks_of
 complete zero L m es few w o =
-    let z : es ≡ [] = empty es (omega (arith, zero-mul (block_size_lem L))) in
+    let z : es ≡ [] = empty es (omega (arith, zero-mul (block_size L))) in
     record { none = refl; list = sym z }
 complete (suc b) L m es few w o =
-    let n : ℕ = block_size_lem L in
+    let n : ℕ = block_size L in
     let xs : List ℕ = take n es in
     let ys : List ℕ = drop n es in
     let next : Mode = after_all m (values_of m xs) in
@@ -105,7 +105,7 @@ complete (suc b) L m es few w o =
     let small : Below (2 ^ 32) xs = below_take n es w in
     let rest : List ℕ = blocks_of L ys b in
     let len : length ys ≡ length es - n = length-drop n es in
-    let ih : Had L next (length ys) rest b ys = complete b L next ys (omega (arith, suc_times b (block_size_lem L))) (below_drop n es w) q.1 in
+    let ih : Had L next (length ys) rest b ys = complete b L next ys (omega (arith, suc_times b (block_size L))) (below_drop n es w) q.1 in
     let p = block_passes L m (length xs) (block L xs ++ rest) (written_passes L xs rest fit small m q.0) in
     let e : entries_at L (length xs) (block L xs ++ rest) ≡ xs = entries_back L xs rest fit small in
     let d : drop (size_at L (block L xs ++ rest)) (block L xs ++ rest) ≡ rest = rest_back L xs rest fit small in
@@ -115,6 +115,6 @@ complete (suc b) L m es few w o =
     }
 
 -- ceil(count / B) blocks are enough
-pub blocks_enough : (L count : ℕ) → 0 < L → count ≤ block_count L count * block_size_lem L
+pub blocks_enough : (L count : ℕ) → 0 < L → count ≤ block_count L count * block_size L
 unfolding block_count
 blocks_enough L count pos = omega (arith, lt-div-mul-add {a = count + (32 * L - 1)} {b = 32 * L} (omega arith))

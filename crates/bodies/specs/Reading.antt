@@ -1,7 +1,7 @@
 -- Reading a body, block by block: which refusal is given, and which list is read. bs are the bytes from a block on, k is how many of
 -- its values are the list's, and m is the mode past the values before it.
 use Rattle.std.specs.Prelude.{Bool, true, not, ◌&&◌, List, [], ◌++◌, ℕ, zero, suc, ◌+◌, ◌-◌, min, ltb, eqb, length, drop}
-use Rattle.layout.specs.Layout.{at, block_size_lem, payload_size, table, payload_entry}
+use Rattle.layout.specs.Layout.{at, block_size, payload_size, table, payload_entry}
 use Rattle.layout.specs.Width.{least_width}
 use Rattle.modes.specs.declared.Mode.{Mode}
 use Rattle.answers.specs.declared.Refusal.{Refusal}
@@ -42,8 +42,8 @@ block_refusal L m k bs =
     refuse (ltb (length bs) 1) CutShort
     (refuse (ltb 32 (width_at bs)) BadWidth
     (refuse (ltb (length bs) (size_at L bs)) CutShort
-    (refuse (not (all_zero (λ i. entry_at L bs (k + i)) (block_size_lem L - k))) BadFill
-    (refuse (not (eqb (width_at bs) (least_width (entry_at L bs) (block_size_lem L)))) NotLeast
+    (refuse (not (all_zero (λ i. entry_at L bs (k + i)) (block_size L - k))) BadFill
+    (refuse (not (eqb (width_at bs) (least_width (entry_at L bs) (block_size L)))) NotLeast
     (refuse_values m (values_at L m k bs)
     Accepted)))))
 
@@ -63,8 +63,8 @@ end_refusal bs = refuse (ltb 0 (length bs)) LeftOver Accepted
 unfoldable pub refusal_from : ℕ → Mode → ℕ → List ℕ → ℕ → Refusal
 refusal_from L m count bs zero = end_refusal bs
 refusal_from L m count bs (suc b) =
-    or_else (block_refusal L m (min (block_size_lem L) count) bs)
-    (refusal_from L (after_all m (values_at L m (min (block_size_lem L) count) bs)) (count - block_size_lem L) (drop (size_at L bs) bs) b)
+    or_else (block_refusal L m (min (block_size L) count) bs)
+    (refusal_from L (after_all m (values_at L m (min (block_size L) count) bs)) (count - block_size L) (drop (size_at L bs) bs) b)
 
 -- a body of count values. m is the mode that the list starts with.
 abbrev pub body_refusal : ℕ → Mode → ℕ → List ℕ → Refusal
@@ -73,7 +73,7 @@ body_refusal L m count bs = refusal_from L m count bs (block_count L count)
 -- the list's own entries of b blocks
 unfoldable pub entries_from : ℕ → ℕ → List ℕ → ℕ → List ℕ
 entries_from L count bs zero = []
-entries_from L count bs (suc b) = entries_at L (min (block_size_lem L) count) bs ++ entries_from L (count - block_size_lem L) (drop (size_at L bs) bs) b
+entries_from L count bs (suc b) = entries_at L (min (block_size L) count) bs ++ entries_from L (count - block_size L) (drop (size_at L bs) bs) b
 
 -- the list of count values that is read from the body bs
 unfoldable pub list_of : ℕ → Mode → ℕ → List ℕ → List ℕ

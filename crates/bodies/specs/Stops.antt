@@ -1,7 +1,7 @@
 -- Where reading stops, block by block: beside the refusal, what was taken before it. bs are the bytes from a block on, count is how many
 -- values are left, and m is the mode past the values before them, as in Reading.
 use Rattle.std.specs.Prelude.{cond, List, ℕ, zero, suc, ◌+◌, ◌-◌, min, drop}
-use Rattle.layout.specs.Layout.{block_size_lem}
+use Rattle.layout.specs.Layout.{block_size}
 use Rattle.modes.specs.declared.Mode.{Mode}
 use Rattle.answers.specs.declared.Refusal.{Refusal}
 use Rattle.answers.specs.declared.Refusal.TheVariants.{Accepted}
@@ -22,8 +22,8 @@ or_stop k count m s = cond (accepted k) s (nothing k count m)
 -- a block, of which min(count, B) values are the list's
 unfoldable pub block_stop : ℕ → Mode → ℕ → List ℕ → Stop
 block_stop L m count bs =
-    or_stop (block_refusal L m (min (block_size_lem L) count) bs) count m
-    (record { refusal = Accepted; blocks = 1; place = size_at L bs; left = count - block_size_lem L; mode = after_all m (values_at L m (min (block_size_lem L) count) bs) })
+    or_stop (block_refusal L m (min (block_size L) count) bs) count m
+    (record { refusal = Accepted; blocks = 1; place = size_at L bs; left = count - block_size L; mode = after_all m (values_at L m (min (block_size L) count) bs) })
 
 -- what s takes, and what t takes from there on
 abbrev pub past : Stop → Stop → Stop

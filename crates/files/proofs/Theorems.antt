@@ -32,7 +32,7 @@ use Rattle.files.specs.declared.HeaderAnswer.{HeaderAnswer}
 use Rattle.files.specs.declared.Found.{Found}
 use Rattle.files.specs.declared.SettingsFound.{SettingsFound}
 use Rattle.files.specs.declared.heading.Header.{Header}
-use Rattle.files.specs.Header.{mode_word, first_text, settings, file_of, read_back_lem, header_text, IsHeader, Heads, Sets}
+use Rattle.files.specs.Header.{mode_word, first_text, settings, file_of, read_back, header_text, IsHeader, Heads, Sets}
 use Rattle.files.specs.kernel.Finding.{settings_in, header_found}
 use Rattle.files.specs.Claims.{FoundExactly, FoundBack, HeaderNotFound, OpensExactly, HeaderBack, HeaderAgain, SettingsExactly, SettingsBack, SettingsNotFound, WrittenBack, FileWritten, ListBack, Files, ReadExactly, ReadOnly, FileAgain}
 use Rattle.files.specs.Opening.{is_settings, is_headed, header_in, body_in, is_file, header_refusal, header_answer, open_answer}
@@ -167,7 +167,7 @@ mode_starting Plain = refl
 mode_starting (Sorted f) = refl
 mode_starting (Strict i) = refl
 
-same_text : (h : Header) (body : List ℕ) → file_of (read_back_lem h) body ≡ file_of h body
+same_text : (h : Header) (body : List ℕ) → file_of (read_back h) body ≡ file_of h body
 unfolding file_of
 same_text h body = rw (first_starting h.mode, mode_starting h.mode)
 
@@ -219,13 +219,13 @@ module _ (L : ℕ) (m : Mode) (vs : List ℕ) (lanes : is_lanes L ≡ true) (fir
   few : length vs ≤ 4096
   few = l.few
 
-  heads : Heads (file_for L m vs) (read_back_lem (header_for L m vs)) (body_of L m vs)
+  heads : Heads (file_for L m vs) (read_back (header_for L m vs)) (body_of L m vs)
   unfolding file_for
   heads =
       written_back (header_for L m vs) (body_of L m vs) lanes first (omega (arith, few)) (omega (arith, body_short L lanes m vs few)) refl
 
   -- its header comes back as it was, and none for strict's 4,294,967,295
-  pub file_header_back : header_answer (file_for L m vs) ≡ record { refusal = Accepted; header = read_back_lem (header_for L m vs) }
+  pub file_header_back : header_answer (file_for L m vs) ≡ record { refusal = Accepted; header = read_back (header_for L m vs) }
   file_header_back = header_back heads
 
   holds : Holds L (starting m) (length vs) (body_of L m vs) vs

@@ -10,7 +10,7 @@ use Rattle.modes.specs.declared.Mode.{Mode}
 use Rattle.modes.specs.Entries.{first_of}
 use Rattle.lists.specs.Calls.{measure_refusal}
 use Rattle.files.specs.declared.heading.Header.{Header}
-use Rattle.files.specs.Header.{settings, file_of, read_back_lem, header_text, IsHeader, Heads, Sets}
+use Rattle.files.specs.Header.{settings, file_of, read_back, header_text, IsHeader, Heads, Sets}
 use Rattle.files.specs.Beside.{nothing_found, no_settings}
 use Rattle.files.specs.Opening.{is_settings, is_headed, header_refusal, header_answer, open_answer}
 use Rattle.files.specs.kernel.Finding.{settings_in, header_found}
@@ -53,7 +53,7 @@ SettingsNotFound = (text : List ℕ) → is_settings text ≡ false → settings
 abbrev pub WrittenBack : Type 0
 WrittenBack =
     (h : Header) (body : List ℕ) → is_lanes h.lanes ≡ true → first_of h.mode < 2 ^ 32 → h.count < 2 ^ 32 → h.bytes < 2 ^ 32 → h.bytes ≡ length body
-    → Heads (file_of h body) (read_back_lem h) body
+    → Heads (file_of h body) (read_back h) body
 
 -- given a list and room, writing is accepted and leaves exactly the list's file; that file, with room for the list, gives the list back
 abbrev pub FileWritten : Type 0

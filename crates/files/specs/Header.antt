@@ -40,8 +40,8 @@ file_of h body =
     (10 ∷ body)))
 
 -- the header that is read back from its text: as it was, with none for strict's 4,294,967,295
-abbrev pub read_back_lem : Header → Header
-read_back_lem h = record { lanes = h.lanes; mode = starting h.mode; count = h.count; bytes = h.bytes }
+abbrev pub read_back : Header → Header
+read_back h = record { lanes = h.lanes; mode = starting h.mode; count = h.count; bytes = h.bytes }
 
 -- the text of a header alone
 abbrev pub header_text : Header → List ℕ

@@ -6,7 +6,7 @@ use native.Mathlib.Nat.{zero-add, mod-lt, mod-eq_of_lt, div-add-mod', div-lt_iff
 use native.Mathlib.Omega.{arith}
 use lib.ListN.{length}
 use lib.Seq.{take_all}
-use Rattle.layout.specs.Layout.{Below, block_size_lem, payload_size, bit, packed, payload_byte, payload_entry}
+use Rattle.layout.specs.Layout.{Below, block_size, payload_size, bit, packed, payload_byte, payload_entry}
 use Rattle.layout.specs.Claims.{LaidOut, Fit, OnePayload, OneBlock, FitsTells, LeastWidth}
 use Rattle.layout.proofs.Products.{below_mul, factor_pos}
 use Rattle.layout.proofs.Strings.{number_of, number_lt}
@@ -26,7 +26,7 @@ module _ (L n : ℕ) (bs : List ℕ) (size : length bs ≡ payload_size L n) (by
   unpacks : LaidOut L n (payload_entry L n bs) bs
   unpacks = record { size = size; bytes = bytes; bits = λ r l j h k i. bit_of_entry L n bs r l j bytes k i }
 
-  entries_only : (e : ℕ → ℕ) → LaidOut L n e bs → Fit e (block_size_lem L) n → (k : ℕ) → k < block_size_lem L → e k ≡ payload_entry L n bs k
+  entries_only : (e : ℕ → ℕ) → LaidOut L n e bs → Fit e (block_size L) n → (k : ℕ) → k < block_size L → e k ≡ payload_entry L n bs k
   entries_only e is fit k h =
       let pos : 0 < L = factor_pos 32 L k h in
       let lt : k / L < 32 = (div-lt_iff_lt-mul pos).1 h in
@@ -38,12 +38,12 @@ pub one_block : OneBlock
 one_block L n bs size bytes = record { is = unpacks L n bs size bytes; fit = λ k h. entry_fits L n bs k; only = entries_only L n bs size bytes }
 
 -- entries that fit, and their payload
-module _ (L n : ℕ) (e : ℕ → ℕ) (fit : Fit e (block_size_lem L) n) where
+module _ (L n : ℕ) (e : ℕ → ℕ) (fit : Fit e (block_size L) n) where
   packed_bytes : Below 256 (packed L n e)
   unfolding packed payload_byte
   packed_bytes = below_table (payload_byte L n e) (payload_size L n) (λ i. number_lt _ (entry_bits_lem L n e _) _ 8)
 
-  back : (k : ℕ) → k < block_size_lem L → payload_entry L n (packed L n e) k ≡ e k
+  back : (k : ℕ) → k < block_size L → payload_entry L n (packed L n e) k ≡ e k
   back k h = ap (λ (t : List ℕ). payload_entry L n t k) (sym (append-nil (packed L n e))) ∙ entry_packed L n e [] fit k h
 
   packs : LaidOut L n e (packed L n e)

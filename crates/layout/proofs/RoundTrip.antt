@@ -6,7 +6,7 @@ use native.Mathlib.Nat.{mul_assoc, mul_comm, mod-lt, div-lt_iff_lt-mul, div-add-
 use native.Mathlib.Omega.{arith}
 use lib.ListN.{length, take, get_or-append}
 use lib.Seq.{ext_get_or, get_or-take, length-take-le}
-use Rattle.layout.specs.Layout.{at, block_size_lem, payload_size, bit, table, entry_bits, byte_bits, payload_byte, payload_entry, packed, word_at}
+use Rattle.layout.specs.Layout.{at, block_size, payload_size, bit, table, entry_bits, byte_bits, payload_byte, payload_entry, packed, word_at}
 use Rattle.layout.proofs.Strings.{bit_number, number_ext, number_lt}
 use Rattle.layout.proofs.Products.{below_mul, factor_pos}
 use Rattle.layout.proofs.Tables.{length_table, table_at, table_ext}
@@ -86,7 +86,7 @@ bit_of_entry L n bs r l j bytes h k =
     ∙ ap (byte_bits L bs l) e ∙ sym (bit_of_word L bs l (p / 32) (p % 32) bytes (omega arith))
 
 -- a payload depends on its block's own entries alone
-pub packed_ext : (L n : ℕ) (d e : ℕ → ℕ) → ((k : ℕ) → k < block_size_lem L → d k ≡ e k) → packed L n d ≡ packed L n e
+pub packed_ext : (L n : ℕ) (d e : ℕ → ℕ) → ((k : ℕ) → k < block_size L → d k ≡ e k) → packed L n d ≡ packed L n e
 unfolding packed payload_byte entry_bits
 packed_ext L n d e same = table_ext (payload_byte L n d) (payload_byte L n e) (payload_size L n) here
   where

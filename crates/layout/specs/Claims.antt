@@ -1,7 +1,7 @@
 -- What is claimed of the layout and of widths: document 01's sentences, each as one statement, and that the definitions are what they
 -- determine. Each claim is proved by one name (proofs/Claims).
 use Rattle.std.specs.Prelude.{◌≡◌, true, ◌↔◌, List, ℕ, ◌+◌, ◌*◌, ◌/◌, ◌%◌, ◌^◌, ◌≤◌, ◌<◌, length}
-use Rattle.layout.specs.Layout.{Below, block_size_lem, payload_size, bit, packed, payload_entry, word_at}
+use Rattle.layout.specs.Layout.{Below, block_size, payload_size, bit, packed, payload_entry, word_at}
 use Rattle.layout.specs.Width.{fits, least_width, or_all, significant}
 
 -- the bytes bs are a payload of the entries e 0, e 1, .. at width n
@@ -23,13 +23,13 @@ pub record PacksOnly (L n : ℕ) (e : ℕ → ℕ) : Type 0 where
   pub only : (bs : List ℕ) → LaidOut L n e bs → bs ≡ packed L n e
 
 abbrev pub OnePayload : Type 0
-OnePayload = (L n : ℕ) (e : ℕ → ℕ) → Fit e (block_size_lem L) n → PacksOnly L n e
+OnePayload = (L n : ℕ) (e : ℕ → ℕ) → Fit e (block_size L) n → PacksOnly L n e
 
 -- any bytes of the right length are a payload of one block of entries that fit, and `payloadEntry` gives it
 pub record UnpacksOnly (L n : ℕ) (bs : List ℕ) : Type 0 where
   pub is : LaidOut L n (payload_entry L n bs) bs
-  pub fit : Fit (payload_entry L n bs) (block_size_lem L) n
-  pub only : (e : ℕ → ℕ) → LaidOut L n e bs → Fit e (block_size_lem L) n → (k : ℕ) → k < block_size_lem L → e k ≡ payload_entry L n bs k
+  pub fit : Fit (payload_entry L n bs) (block_size L) n
+  pub only : (e : ℕ → ℕ) → LaidOut L n e bs → Fit e (block_size L) n → (k : ℕ) → k < block_size L → e k ≡ payload_entry L n bs k
 
 abbrev pub OneBlock : Type 0
 OneBlock = (L n : ℕ) (bs : List ℕ) → length bs ≡ payload_size L n → Below 256 bs → UnpacksOnly L n bs

@@ -14,8 +14,8 @@ unfoldable pub is_lanes : ℕ → Bool
 is_lanes L = eqb L 1 || eqb L 4 || eqb L 8
 
 -- "A block has B = 32L values."
-abbrev pub block_size_lem : ℕ → ℕ
-block_size_lem L = 32 * L
+abbrev pub block_size : ℕ → ℕ
+block_size L = 32 * L
 
 -- "A payload has 4Ln bytes."
 abbrev pub payload_size : ℕ → ℕ → ℕ

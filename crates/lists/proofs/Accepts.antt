@@ -10,7 +10,7 @@ use lib.ListN.{length}
 use Rattle.modes.specs.declared.Mode.{Mode}
 use Rattle.answers.specs.declared.Refusal.TheVariants.{Accepted, BadLanes, NoRoom, TooMany, OutOfOrder}
 use Rattle.answers.specs.Refusals.{accepted, refuse, or_else}
-use Rattle.layout.specs.Layout.{block_size_lem, is_lanes}
+use Rattle.layout.specs.Layout.{block_size, is_lanes}
 use Rattle.answers.proofs.Refusals.{passed, both}
 use Rattle.order.specs.Order.{starting, ordered}
 use Rattle.bodies.specs.List.{most}
@@ -83,14 +83,14 @@ read_exactly L m count bs room = (there, λ s. rw (s.lanes, le-ltb most count s.
 -- what reading a block by itself accepts
 pub record BlockReadable (L : ℕ) (m : Mode) (count : ℕ) (bs : List ℕ) (room : ℕ) : Type 0 where
   pub lanes : is_lanes L ≡ true
-  pub enough : min (block_size_lem L) count ≤ room
-  pub block : accepted (block_refusal L m (min (block_size_lem L) count) bs) ≡ true
+  pub enough : min (block_size L) count ≤ room
+  pub block : accepted (block_refusal L m (min (block_size L) count) bs) ≡ true
 
 pub read_block_exactly : (L : ℕ) (m : Mode) (count : ℕ) (bs : List ℕ) (room : ℕ) → (accepted (read_block_refusal L m count bs room) ≡ true) ↔ BlockReadable L m count bs room
-read_block_exactly L m count bs room = (there, λ s. rw (s.lanes, le-ltb room (min (block_size_lem L) count) s.enough) s.block)
+read_block_exactly L m count bs room = (there, λ s. rw (s.lanes, le-ltb room (min (block_size L) count) s.enough) s.block)
   where
     there : accepted (read_block_refusal L m count bs room) ≡ true → BlockReadable L m count bs room
     there h =
         let a = passed _ BadLanes _ refl h in
         let b = passed _ NoRoom _ refl a.1 in
-        record { lanes = not-false _ a.0; enough = ltb-false room (min (block_size_lem L) count) b.0; block = b.1 }
+        record { lanes = not-false _ a.0; enough = ltb-false room (min (block_size L) count) b.0; block = b.1 }

@@ -7,7 +7,7 @@ use native.Mathlib.Nat.{mul-le-mul}
 use native.Mathlib.Omega.{arith}
 use lib.ListN.{length, take, drop, length-drop}
 use borrow.Rule.Slice.PartMut.{mid_of}
-use Rattle.layout.specs.Layout.{at, block_size_lem, payload_size, table, packed, is_lanes}
+use Rattle.layout.specs.Layout.{at, block_size, payload_size, table, packed, is_lanes}
 use Rattle.answers.specs.Answers.{over}
 use Rattle.answers.specs.declared.Answer.{Answer}
 use Rattle.layout.proofs.LaneCounts.{lanes_of}
@@ -36,10 +36,10 @@ module _ (L : ℕ) (lanes : is_lanes L ≡ true) where
   pub size_is : {r : Answer} {n : ℕ} → r ≡ size_answer L n → n ≤ 32 → r.length ≡ payload_size L n
   size_is {r} {n} e h = ap (λ (a : Answer). a.length) e ∙ rw ((size_exactly L n).1 (record { lanes = lanes; width = h }))
 
-  pub width_is : {r : Width} (vs : List ℕ) → length vs ≡ block_size_lem L → r ≡ width_answer L Plain vs → r.width ≡ least_width (at vs) (block_size_lem L)
+  pub width_is : {r : Width} (vs : List ℕ) → length vs ≡ block_size L → r ≡ width_answer L Plain vs → r.width ≡ least_width (at vs) (block_size L)
   width_is vs size e = ap (λ (a : Width). a.width) e ∙ rw ((width_exactly L (length vs)).1 (record { lanes = lanes; block = size }))
 
-  pub pack_is : (vs before : List ℕ) (n : ℕ) → length vs ≡ block_size_lem L → n ≤ 32 → payload_size L n ≤ length before → fits (at vs) (block_size_lem L) n ≡ true
+  pub pack_is : (vs before : List ℕ) (n : ℕ) → length vs ≡ block_size L → n ≤ 32 → payload_size L n ≤ length before → fits (at vs) (block_size L) n ≡ true
       → pack_output L Plain vs before n ≡ over (packed L n (at vs)) before
   pack_is vs before n size narrow room fit =
       sym (overwritten {k = pack_refusal L Plain vs (length before) n} refl
@@ -50,21 +50,21 @@ module _ (L : ℕ) (lanes : is_lanes L ≡ true) where
     pub narrow_there : n ≤ 32
     narrow_there = rw is f.narrow
 
-    pub unpack_is : (m : Mode) (before : List ℕ) → block_size_lem L ≤ length before → unpack_output L m (mid_of 1 (length bs - 1) bs) before n ≡ over (values_at L m (block_size_lem L) bs) before
+    pub unpack_is : (m : Mode) (before : List ℕ) → block_size L ≤ length before → unpack_output L m (mid_of 1 (length bs - 1) bs) before n ≡ over (values_at L m (block_size L) bs) before
     unfolding unpacked
     unpack_is m before room =
         let able = (unpack_exactly L (length (drop 1 bs)) (length before) n).1 (record { lanes = lanes; width = narrow_there; enough = room; whole = rw (length-drop, is) (omega (arith, f.whole)) }) in
-        let same : unpacked L m (drop 1 bs) n ≡ values_at L m (block_size_lem L) bs = rw is (sym (values_are m (entry_at L bs) (block_size_lem L))) in
+        let same : unpacked L m (drop 1 bs) n ≡ values_at L m (block_size L) bs = rw is (sym (values_are m (entry_at L bs) (block_size L))) in
         ap (λ (t : List ℕ). unpack_output L m t before n) (part_is 1 bs)
         ∙ sym (overwritten {k = unpack_refusal L (length (drop 1 bs)) (length before) n} refl able (unpacked L m (drop 1 bs) n) before refl)
         ∙ ap (λ (t : List ℕ). over t before) same
 
     -- in plain mode the values are the entries themselves
     pub entries_is : (before after : List ℕ) → length before ≡ 256 → after ≡ unpack_output L Plain (mid_of 1 (length bs - 1) bs) before n
-        → (length after ≡ 256) × (take (block_size_lem L) after ≡ table (entry_at L bs) (block_size_lem L))
+        → (length after ≡ 256) × (take (block_size L) after ≡ table (entry_at L bs) (block_size L))
     entries_is before after size e =
-        let es : List ℕ = table (entry_at L bs) (block_size_lem L) in
-        let len : length es ≡ block_size_lem L = length_table (entry_at L bs) (block_size_lem L) in
-        let room : block_size_lem L ≤ length before = omega (arith, lanes_of L lanes) in
+        let es : List ℕ = table (entry_at L bs) (block_size L) in
+        let len : length es ≡ block_size L = length_table (entry_at L bs) (block_size L) in
+        let room : block_size L ≤ length before = omega (arith, lanes_of L lanes) in
         let is : after ≡ over es before = e ∙ unpack_is Plain before room ∙ ap (λ (t : List ℕ). over t before) (plain_values es) in
-        (ap length is ∙ length_over es before (omega arith) ∙ size, ap (take (block_size_lem L)) is ∙ take_over (block_size_lem L) es before len)
+        (ap length is ∙ length_over es before (omega arith) ∙ size, ap (take (block_size L)) is ∙ take_over (block_size L) es before len)

@@ -8,7 +8,7 @@ use native.Mathlib.Omega.{arith}
 use lib.ListN.{length, take, drop, length-append, get_or-append}
 use lib.Seq.{take-take}
 use borrow.Rule.Slice.PartMut.{mid_of, put_mid}
-use Rattle.layout.specs.Layout.{at, block_size_lem, payload_size}
+use Rattle.layout.specs.Layout.{at, block_size, payload_size}
 use Rattle.answers.specs.Answers.{over}
 use Rattle.answers.specs.Refusals.{accepted}
 use Rattle.answers.proofs.Refusals.{both}
@@ -35,38 +35,38 @@ module _ (L : ℕ) (m : Mode) (bs : List ℕ) where
   length_at k = length_values m (entries_at L k bs) ∙ length_table (entry_at L bs) k
 
   -- its first k values
-  pub first_values : (k : ℕ) → k ≤ block_size_lem L → take k (values_at L m (block_size_lem L) bs) ≡ values_at L m k bs
+  pub first_values : (k : ℕ) → k ≤ block_size L → take k (values_at L m (block_size L) bs) ≡ values_at L m k bs
   first_values k h =
-      ap (take k) (values_are m (entry_at L bs) (block_size_lem L)) ∙ take_table (values m (entry_at L bs)) k (block_size_lem L) h ∙ sym (values_are m (entry_at L bs) k)
+      ap (take k) (values_are m (entry_at L bs) (block_size L)) ∙ take_table (values m (entry_at L bs)) k (block_size L) h ∙ sym (values_are m (entry_at L bs) k)
 
   -- its last value, in the output that it was written to
-  pub last_value : 0 < L → (out before : List ℕ) → out ≡ over (values_at L m (block_size_lem L) bs) before → after m (at out (block_size_lem L - 1)) ≡ after_all m (values_at L m (block_size_lem L) bs)
+  pub last_value : 0 < L → (out before : List ℕ) → out ≡ over (values_at L m (block_size L) bs) before → after m (at out (block_size L - 1)) ≡ after_all m (values_at L m (block_size L) bs)
   last_value pos out before e =
-      let vs : List ℕ = values_at L m (block_size_lem L) bs in
-      let len : length vs ≡ block_size_lem L = length_at (block_size_lem L) in
-      let v : at out (block_size_lem L - 1) ≡ at vs (length vs - 1) = ap (λ (t : List ℕ). at t (block_size_lem L - 1)) e ∙ get_or-append vs _ 0 (block_size_lem L - 1) (omega arith) ∙ ap (λ (t : ℕ). at vs (t - 1)) (sym len) in
+      let vs : List ℕ = values_at L m (block_size L) bs in
+      let len : length vs ≡ block_size L = length_at (block_size L) in
+      let v : at out (block_size L - 1) ≡ at vs (length vs - 1) = ap (λ (t : List ℕ). at t (block_size L - 1)) e ∙ get_or-append vs _ 0 (block_size L - 1) (omega arith) ∙ ap (λ (t : ℕ). at vs (t - 1)) (sym len) in
       ap (after m) v ∙ sym (after_end m vs (omega arith))
 
   -- unpacked into a block of the reader's own
-  pub own_block : (k : ℕ) (zs own : List ℕ) → k ≤ block_size_lem L → own ≡ over (values_at L m (block_size_lem L) bs) zs → take k own ≡ values_at L m k bs
+  pub own_block : (k : ℕ) (zs own : List ℕ) → k ≤ block_size L → own ≡ over (values_at L m (block_size L) bs) zs → take k own ≡ values_at L m k bs
   own_block k zs own h e =
-      sym (take-take k (block_size_lem L) own h) ∙ ap (take k) (ap (take (block_size_lem L)) e ∙ take_over (block_size_lem L) (values_at L m (block_size_lem L) bs) zs (length_at (block_size_lem L))) ∙ first_values k h
+      sym (take-take k (block_size L) own h) ∙ ap (take k) (ap (take (block_size L)) e ∙ take_over (block_size L) (values_at L m (block_size L) bs) zs (length_at (block_size L))) ∙ first_values k h
 
 -- a run of blocks
 
 -- the first of them stands there, and so do the others
 module _ (L : ℕ) (lanes : 0 < L) (count : ℕ) (bs : List ℕ) (pos : 0 < count) (good : accepted (frames_from L bs (block_count L count)) ≡ true) where
-  frames_next : (accepted (frame_refusal L bs) ≡ true) × (accepted (frames_from L (drop (size_at L bs) bs) (block_count L (count - block_size_lem L))) ≡ true)
+  frames_next : (accepted (frame_refusal L bs) ≡ true) × (accepted (frames_from L (drop (size_at L bs) bs) (block_count L (count - block_size L))) ≡ true)
   unfolding frames_from
-  frames_next = both (frame_refusal L bs) (frames_from L (drop (size_at L bs) bs) (block_count L (count - block_size_lem L))) (rw (blocks_next L lanes count pos) at good)
+  frames_next = both (frame_refusal L bs) (frames_from L (drop (size_at L bs) bs) (block_count L (count - block_size L))) (rw (blocks_next L lanes count pos) at good)
 
 -- a body that is not refused has them
 pub frames_good : (b L : ℕ) (m : Mode) (count : ℕ) (bs : List ℕ) → accepted (refusal_from L m count bs b) ≡ true → accepted (frames_from L bs b) ≡ true
 unfolding refusal_from frames_from
 frames_good zero L m count bs h = refl
 frames_good (suc b) L m count bs h =
-    let o = both (block_refusal L m (min (block_size_lem L) count) bs) _ h in
-    rw (frames L bs (block_passed L m _ bs o.0).frame) (frames_good b L _ (count - block_size_lem L) (drop (size_at L bs) bs) o.1)
+    let o = both (block_refusal L m (min (block_size L) count) bs) _ h in
+    rw (frames L bs (block_passed L m _ bs o.0).frame) (frames_good b L _ (count - block_size L) (drop (size_at L bs) bs) o.1)
 
 -- what stands in `out` after the first `done` values, up to `place` in the body, and what is to come
 pub record Fetching (L : ℕ) (m₀ : Mode) (count : ℕ) (body before : List ℕ) (m : Mode) (place done : ℕ) (out : List ℕ) : Type 0 where
@@ -88,7 +88,7 @@ module _ {L : ℕ} {m₀ : Mode} {count : ℕ} {body before : List ℕ} {m : Mod
   out_length = front_length f.here done f.far
 
   module _ (lt : done < count) where
-    next : (accepted (frame_refusal L (drop place body)) ≡ true) × (accepted (frames_from L (drop (size_at L (drop place body)) (drop place body)) (block_count L (count - done - block_size_lem L))) ≡ true)
+    next : (accepted (frame_refusal L (drop place body)) ≡ true) × (accepted (frames_from L (drop (size_at L (drop place body)) (drop place body)) (block_count L (count - done - block_size L))) ≡ true)
     next = frames_next L lanes (count - done) (drop place body) (omega arith) f.good
 
     -- the next block stands there
@@ -109,17 +109,17 @@ module _ {L : ℕ} {m₀ : Mode} {count : ℕ} {body before : List ℕ} {m : Mod
       next_within = end_within L body place f.within next_whole w size is sized
 
       -- a full block
-      pub fetching_more : block_size_lem L ≤ count - done → (ys : List ℕ) (to : Mode)
-          → ys ≡ over (values_at L m (block_size_lem L) (mid_of place (length body - place) body)) (mid_of done (length out - done) out)
-          → to ≡ after_all m (values_at L m (block_size_lem L) (mid_of place (length body - place) body))
-          → Fetching L m₀ count body before to (place + size) (done + block_size_lem L) (put_mid done (length out - done) out ys)
+      pub fetching_more : block_size L ≤ count - done → (ys : List ℕ) (to : Mode)
+          → ys ≡ over (values_at L m (block_size L) (mid_of place (length body - place) body)) (mid_of done (length out - done) out)
+          → to ≡ after_all m (values_at L m (block_size L) (mid_of place (length body - place) body))
+          → Fetching L m₀ count body before to (place + size) (done + block_size L) (put_mid done (length out - done) out ys)
       fetching_more h ys to came moved =
           let bs : List ℕ = drop place body in
           let left : ℕ = count - done in
-          let k : min (block_size_lem L) left ≡ block_size_lem L = min-eq_left h in
-          let vs : List ℕ = values_at L m (block_size_lem L) bs in
-          let len : length vs ≡ block_size_lem L = length_at L m bs (block_size_lem L) in
-          let less : left - block_size_lem L ≡ count - (done + block_size_lem L) = omega arith in
+          let k : min (block_size L) left ≡ block_size L = min-eq_left h in
+          let vs : List ℕ = values_at L m (block_size L) bs in
+          let len : length vs ≡ block_size L = length_at L m bs (block_size L) in
+          let less : left - block_size L ≡ count - (done + block_size L) = omega arith in
           let came' : ys ≡ over vs (mid_of done (length out - done) out) = came ∙ rw (part_is place body) in
           let moved' : to ≡ after_all m vs = moved ∙ rw (part_is place body) in
           let move = rest_there L body place f.within next_whole w size is sized in
@@ -136,15 +136,15 @@ module _ {L : ℕ} {m₀ : Mode} {count : ℕ} {body before : List ℕ} {m : Mod
           }
 
     -- a last block that is not full
-    pub fetching_last : count - done < block_size_lem L → (ys : List ℕ)
+    pub fetching_last : count - done < block_size L → (ys : List ℕ)
         → ys ≡ over (values_at L m (count - done) (mid_of place (length body - place) body)) (mid_of done (length out - done) out)
         → put_mid done (length out - done) out ys ≡ over (list_of L m₀ count body) before
     fetching_last h ys came =
         let bs : List ℕ = drop place body in
         let left : ℕ = count - done in
-        let k : min (block_size_lem L) left ≡ left = min-eq_right {n = left} {m = block_size_lem L} (omega arith) in
+        let k : min (block_size L) left ≡ left = min-eq_right {n = left} {m = block_size L} (omega arith) in
         let vs : List ℕ = values_at L m left bs in
-        let none : left - block_size_lem L ≡ 0 = omega arith in
+        let none : left - block_size L ≡ 0 = omega arith in
         let came' : ys ≡ over vs (mid_of done (length out - done) out) = came ∙ rw (part_is place body) in
         let all : list_of L m₀ count body ≡ f.so_far ++ vs =
         f.list ∙ ap (λ (t : List ℕ). f.so_far ++ t) (list_next L lanes m left bs (omega arith) ∙ rw (k, none, list_none L lanes (after_all m vs) (drop (size_at L bs) bs)) (append-nil vs)) in

@@ -10,7 +10,7 @@ use native.Mathlib.Decide.{dec_lt}
 use lib.ListN.{length, set, take, drop, replicate, length-append, length-drop, length-take, length-set, drop_of_length-le, get_or-append, get_or-eq_default}
 use lib.Seq.{take_all, get_or-take, get_or-drop, get_or-append-add, drop-drop, length-take-le}
 use borrow.Rule.Slice.PartMut.{mid_of, put_mid}
-use Rattle.layout.specs.Layout.{at, Below, block_size_lem, payload_size, packed, is_lanes}
+use Rattle.layout.specs.Layout.{at, Below, block_size, payload_size, packed, is_lanes}
 use Rattle.answers.specs.Answers.{over}
 use Rattle.layout.proofs.LaneCounts.{lanes_of}
 use Rattle.answers.proofs.Fronts.{Front, front_none, front_length, front_put, front_part, length_over}
@@ -72,42 +72,42 @@ over_zeros es n k = go (dec_lt k (length es))
 pub record Own (L : ℕ) (es own : List ℕ) : Type 0 where
   pub lanes : is_lanes L ≡ true
   pub small : Below (2 ^ 32) es
-  pub few : length es ≤ block_size_lem L
+  pub few : length es ≤ block_size L
   pub here : own ≡ over es (replicate 256 0)
 
-pub own_of : (L : ℕ) (m : Mode) (vs own : List ℕ) → is_lanes L ≡ true → Below (2 ^ 32) vs → length vs ≤ block_size_lem L → own ≡ over (entries_of m vs) (replicate 256 0) → Own L (entries_of m vs) own
+pub own_of : (L : ℕ) (m : Mode) (vs own : List ℕ) → is_lanes L ≡ true → Below (2 ^ 32) vs → length vs ≤ block_size L → own ≡ over (entries_of m vs) (replicate 256 0) → Own L (entries_of m vs) own
 own_of L m vs own lanes small few here = record { lanes = lanes; small = entries_small m vs small; few = rw length_entries few; here = here }
 
 module _ {L : ℕ} {es own : List ℕ} (o : Own L es own) where
-  pub own_length : block_size_lem L ≤ length own
+  pub own_length : block_size L ≤ length own
   own_length = omega (arith, ap length o.here, length_over es (replicate 256 0) (omega (arith, o.few, lanes_of L o.lanes)), lanes_of L o.lanes)
 
-  pub block_length : length (take (block_size_lem L) own) ≡ block_size_lem L
-  block_length = length-take-le (block_size_lem L) own own_length
+  pub block_length : length (take (block_size L) own) ≡ block_size L
+  block_length = length-take-le (block_size L) own own_length
 
-  block_at : (k : ℕ) → k < block_size_lem L → filled es k ≡ at (take (block_size_lem L) own) k
-  block_at k h = sym (get_or-take (block_size_lem L) own k 0 h ∙ ap (λ (t : List ℕ). at t k) o.here ∙ over_zeros es 256 k)
+  block_at : (k : ℕ) → k < block_size L → filled es k ≡ at (take (block_size L) own) k
+  block_at k h = sym (get_or-take (block_size L) own k 0 h ∙ ap (λ (t : List ℕ). at t k) o.here ∙ over_zeros es 256 k)
 
-  fit : Fit (filled es) (block_size_lem L) 32
+  fit : Fit (filled es) (block_size L) 32
   fit k h = o.small k
 
   length_block : length (block L es) ≡ 1 + payload_size L (width_of L es)
   unfolding block
   length_block = rw (length_packed, one-add)
 
-  module _ {r : Width} (told : r ≡ width_answer L Plain (take (block_size_lem L) own)) where
+  module _ {r : Width} (told : r ≡ width_answer L Plain (take (block_size L) own)) where
     pub width_of_lem : r.width ≡ width_of L es
-    width_of_lem = width_is L o.lanes (take (block_size_lem L) own) block_length told ∙ width_ext fit block_at
+    width_of_lem = width_is L o.lanes (take (block_size L) own) block_length told ∙ width_ext fit block_at
 
     pub width_narrow : r.width ≤ 32
-    width_narrow = rw width_of_lem (width_small (filled es) (block_size_lem L) fit)
+    width_narrow = rw width_of_lem (width_small (filled es) (block_size L) fit)
 
     pub length_of : {n : ℕ} → n ≡ 1 + payload_size L r.width → n ≡ length (block L es)
     length_of e = e ∙ rw width_of_lem (sym length_block)
 
     -- its width at the front of `out`, and its payload packed into the part behind that
     pub store_is : (out ys : List ℕ) → length (block L es) ≤ length out
-        → ys ≡ pack_output L Plain (take (block_size_lem L) own) (mid_of 1 (length (set out 0 (r.width % 256)) - 1) (set out 0 (r.width % 256))) r.width
+        → ys ≡ pack_output L Plain (take (block_size L) own) (mid_of 1 (length (set out 0 (r.width % 256)) - 1) (set out 0 (r.width % 256))) r.width
         → put_mid 1 (length (set out 0 (r.width % 256)) - 1) (set out 0 (r.width % 256)) ys ≡ over (block L es) out
     unfolding block
     store_is out ys room came =
@@ -118,9 +118,9 @@ module _ {L : ℕ} {es own : List ℕ} (o : Own L es own) where
         let rest : List ℕ = mid_of 1 (length (set out 0 (n % 256)) - 1) (set out 0 (n % 256)) in
         let wide : payload_size L n ≤ length rest = rw (part_length 1 (set out 0 (n % 256)), length-set, width_of_lem) (omega arith) in
         let packs : ys ≡ over (packed L n (filled es)) rest =
-        came ∙ pack_is L o.lanes (take (block_size_lem L) own) rest n block_length width_narrow wide
-        (fits_of (at (take (block_size_lem L) own)) (block_size_lem L) n (λ k h. rw (← block_at k h, width_of_lem) ((width_least (filled es) (block_size_lem L) fit).fit k h)))
-        ∙ ap (λ (t : List ℕ). over t rest) (packed_ext L n (at (take (block_size_lem L) own)) (filled es) (λ k h. sym (block_at k h))) in
+        came ∙ pack_is L o.lanes (take (block_size L) own) rest n block_length width_narrow wide
+        (fits_of (at (take (block_size L) own)) (block_size L) n (λ k h. rw (← block_at k h, width_of_lem) ((width_least (filled es) (block_size L) fit).fit k h)))
+        ∙ ap (λ (t : List ℕ). over t rest) (packed_ext L n (at (take (block_size L) own)) (filled es) (λ k h. sym (block_at k h))) in
         (front_part first 1 refl (packed L n (filled es)) ys (rw (length_packed, width_of_lem) (omega arith)) packs).here ∙ rw (b, width_of_lem)
 
 -- a block has its width byte at least
@@ -160,18 +160,18 @@ module _ {L : ℕ} {m₀ : Mode} {vs : List ℕ} {m : Mode} {place done : ℕ} (
       let z : body_of L m (drop place vs) ≡ [] = body_none L lanes m (drop place vs) (length-drop place vs ∙ omega arith) in
       s.body ∙ rw z (append-nil s.so_far)
 
-  module _ (lt : place < length vs) (k : ℕ) (is : k ≡ min (block_size_lem L) (length vs - place)) where
+  module _ (lt : place < length vs) (k : ℕ) (is : k ≡ min (block_size L) (length vs - place)) where
     -- the values of the next block, as the part `&values[place..place + k]`
     abbrev pub part : List ℕ
     part = take (place + k - place) (drop place vs)
 
-    part_same : part ≡ take (block_size_lem L) (drop place vs)
+    part_same : part ≡ take (block_size L) (drop place vs)
     part_same =
-        let q : place + k - place ≡ min (block_size_lem L) (length (drop place vs)) = rw length-drop (omega arith) in
-        ap (λ (t : ℕ). take t (drop place vs)) q ∙ sym (take_min (block_size_lem L) (drop place vs))
+        let q : place + k - place ≡ min (block_size L) (length (drop place vs)) = rw length-drop (omega arith) in
+        ap (λ (t : ℕ). take t (drop place vs)) q ∙ sym (take_min (block_size L) (drop place vs))
 
     pub length_part : length part ≡ k
-    length_part = ap length part_same ∙ length-take (block_size_lem L) (drop place vs) ∙ rw (length-drop, ← is)
+    length_part = ap length part_same ∙ length-take (block_size L) (drop place vs) ∙ rw (length-drop, ← is)
 
     pub mode_next : after_all m part ≡ after m (at vs (place + k - 1))
     mode_next =
@@ -182,8 +182,8 @@ module _ {L : ℕ} {m₀ : Mode} {vs : List ℕ} {m : Mode} {place done : ℕ} (
 
     next_body : body_of L m (drop place vs) ≡ block L (entries_of m part) ++ body_of L (after m (at vs (place + k - 1))) (drop (place + k) vs)
     next_body =
-        let rest : drop (block_size_lem L) (drop place vs) ≡ drop (place + k) vs = drop_min (block_size_lem L) (drop place vs) ∙ rw (length-drop, ← is) (drop-drop k place vs) in
-        let here : body_of L m (drop place vs) ≡ block L (entries_of m part) ++ body_of L (after_all m part) (drop (block_size_lem L) (drop place vs)) =
+        let rest : drop (block_size L) (drop place vs) ≡ drop (place + k) vs = drop_min (block_size L) (drop place vs) ∙ rw (length-drop, ← is) (drop-drop k place vs) in
+        let here : body_of L m (drop place vs) ≡ block L (entries_of m part) ++ body_of L (after_all m part) (drop (block_size L) (drop place vs)) =
         rw part_same (body_next L lanes m (drop place vs) (rw length-drop (omega arith))) in
         here ∙ rw (mode_next, rest)
 
@@ -226,7 +226,7 @@ module _ {L : ℕ} {m₀ : Mode} {vs before : List ℕ} {m : Mode} {place done :
         let e : body_of L m₀ vs ≡ s.run.so_far = stored_all s.run lanes h in
         rw e (sym s.run.far, s.here.here)
 
-    module _ (lt : place < length vs) (k : ℕ) (is : k ≡ min (block_size_lem L) (length vs - place)) where
+    module _ (lt : place < length vs) (k : ℕ) (is : k ≡ min (block_size L) (length vs - place)) where
       pub block_room : length (block L (entries_of m (part s.run lanes lt k is))) ≤ length (mid_of done (length out - done) out)
       block_room = rw (part_length done out) (omega (arith, storing_length, block_within s.run lanes lt k is))
 

@@ -9,7 +9,7 @@ use lib.ListN.{length, take, drop, length-drop}
 use lib.Pow.{pow_mono}
 use lib.Seq.{take-take, drop-drop}
 use borrow.Rule.Slice.PartMut.{mid_of}
-use Rattle.layout.specs.Layout.{at, block_size_lem, payload_size, table}
+use Rattle.layout.specs.Layout.{at, block_size, payload_size, table}
 use Rattle.layout.specs.Width.{fits, least_width}
 use Rattle.layout.proofs.Tables.{table_at, take_table}
 use Rattle.layout.proofs.RoundTrip.{entry_fits}
@@ -31,50 +31,50 @@ use Rattle.lists.specs.kernel.Steps.{entries_refusal, shape_refusal}
 use Rattle.lists.proofs.BlockParts.{block_parts}
 
 -- the filling, as the part behind the list's own entries
-pub fill_part : (L k : ℕ) (es : List ℕ) → length es ≡ block_size_lem L
-    → fits (at (mid_of k (length es - k) es)) (length (mid_of k (length es - k) es)) 0 ≡ fits (λ i. at es (k + i)) (block_size_lem L - k) 0
+pub fill_part : (L k : ℕ) (es : List ℕ) → length es ≡ block_size L
+    → fits (at (mid_of k (length es - k) es)) (length (mid_of k (length es - k) es)) 0 ≡ fits (λ i. at es (k + i)) (block_size L - k) 0
 fill_part L k es size =
-    let len : length (mid_of k (length es - k) es) ≡ block_size_lem L - k = part_length k es ∙ ap (λ (t : ℕ). t - k) size in
-    rw len (fits_ext (at (mid_of k (length es - k) es)) (λ i. at es (k + i)) (block_size_lem L - k) 0 (λ i h. part_at k es i))
+    let len : length (mid_of k (length es - k) es) ≡ block_size L - k = part_length k es ∙ ap (λ (t : ℕ). t - k) size in
+    rw len (fits_ext (at (mid_of k (length es - k) es)) (λ i. at es (k + i)) (block_size L - k) 0 (λ i h. part_at k es i))
 
 -- the entries es that the block bs was unpacked to
-module _ (L k : ℕ) (bs es : List ℕ) (small : k ≤ block_size_lem L) (is : take (block_size_lem L) es ≡ table (entry_at L bs) (block_size_lem L)) where
+module _ (L k : ℕ) (bs es : List ℕ) (small : k ≤ block_size L) (is : take (block_size L) es ≡ table (entry_at L bs) (block_size L)) where
   pub own_entries : take k es ≡ entries_at L k bs
-  own_entries = sym (take-take k (block_size_lem L) es small) ∙ ap (take k) is ∙ take_table (entry_at L bs) k (block_size_lem L) small
+  own_entries = sym (take-take k (block_size L) es small) ∙ ap (take k) is ∙ take_table (entry_at L bs) k (block_size L) small
 
-  same_refusal : Framed L bs → (w : ℕ) → entries_refusal L k w (at (take (block_size_lem L) es)) ≡ entries_refusal L k w (entry_at L bs)
+  same_refusal : Framed L bs → (w : ℕ) → entries_refusal L k w (at (take (block_size L) es)) ≡ entries_refusal L k w (entry_at L bs)
   unfolding entries_refusal
   same_refusal f w =
-      let same : (i : ℕ) → i < block_size_lem L → at (take (block_size_lem L) es) i ≡ entry_at L bs i = λ i h. ap (λ (t : List ℕ). at t i) is ∙ table_at (entry_at L bs) (block_size_lem L) i h in
-      let fill : fits (λ i. at (take (block_size_lem L) es) (k + i)) (block_size_lem L - k) 0 ≡ fits (λ i. entry_at L bs (k + i)) (block_size_lem L - k) 0 = fits_ext _ _ (block_size_lem L - k) 0 (λ i h. same (k + i) (omega arith)) in
-      let least : least_width (at (take (block_size_lem L) es)) (block_size_lem L) ≡ least_width (entry_at L bs) (block_size_lem L) =
+      let same : (i : ℕ) → i < block_size L → at (take (block_size L) es) i ≡ entry_at L bs i = λ i h. ap (λ (t : List ℕ). at t i) is ∙ table_at (entry_at L bs) (block_size L) i h in
+      let fill : fits (λ i. at (take (block_size L) es) (k + i)) (block_size L - k) 0 ≡ fits (λ i. entry_at L bs (k + i)) (block_size L - k) 0 = fits_ext _ _ (block_size L - k) 0 (λ i h. same (k + i) (omega arith)) in
+      let least : least_width (at (take (block_size L) es)) (block_size L) ≡ least_width (entry_at L bs) (block_size L) =
       width_ext (λ i h. lt_of_lt_of_le (entry_fits L (width_at bs) (drop 1 bs) i) (pow_mono f.narrow)) (λ i h. sym (same i h)) in
       rw (fill, least)
 
 -- the ways out of a block
 module _ (L : ℕ) (m : Mode) (left : ℕ) (bs : List ℕ) where
-  refused : {r : Refusal} {s : Stop} → s ≡ nothing r left m → r ≡ block_refusal L m (min (block_size_lem L) left) bs → accepted r ≡ false → s ≡ block_stop L m left bs
+  refused : {r : Refusal} {s : Stop} → s ≡ nothing r left m → r ≡ block_refusal L m (min (block_size L) left) bs → accepted r ≡ false → s ≡ block_stop L m left bs
   refused is e h = is ∙ ap (λ (k : Refusal). nothing k left m) e ∙ sym (block_refused L m left bs (ap accepted (sym e) ∙ h))
 
   pub no_frame : {r : Refusal} {s : Stop} → s ≡ nothing r left m → r ≡ frame_refusal L bs → accepted r ≡ false → s ≡ block_stop L m left bs
   unfolding shape_refusal
   no_frame is e h =
       let f : accepted (frame_refusal L bs) ≡ false = ap accepted (sym e) ∙ h in
-      let s : shape_refusal L (min (block_size_lem L) left) bs ≡ frame_refusal L bs = first_stops (frame_refusal L bs) _ f in
-      refused is (e ∙ sym (block_parts L m (min (block_size_lem L) left) bs ∙ first_stops (shape_refusal L (min (block_size_lem L) left) bs) _ (ap accepted s ∙ f) ∙ s)) h
+      let s : shape_refusal L (min (block_size L) left) bs ≡ frame_refusal L bs = first_stops (frame_refusal L bs) _ f in
+      refused is (e ∙ sym (block_parts L m (min (block_size L) left) bs ∙ first_stops (shape_refusal L (min (block_size L) left) bs) _ (ap accepted s ∙ f) ∙ s)) h
 
-  module _ {k : ℕ} (own : k ≡ min (block_size_lem L) left) (framed_there : accepted (frame_refusal L bs) ≡ true) (es : List ℕ) (is : take (block_size_lem L) es ≡ table (entry_at L bs) (block_size_lem L)) (w : ℕ) (width : w ≡ width_at bs) where
-    small : k ≤ block_size_lem L
+  module _ {k : ℕ} (own : k ≡ min (block_size L) left) (framed_there : accepted (frame_refusal L bs) ≡ true) (es : List ℕ) (is : take (block_size L) es ≡ table (entry_at L bs) (block_size L)) (w : ℕ) (width : w ≡ width_at bs) where
+    small : k ≤ block_size L
     small = omega arith
 
-    shape_is : {r : Refusal} → r ≡ entries_refusal L k w (at (take (block_size_lem L) es)) → r ≡ shape_refusal L k bs
+    shape_is : {r : Refusal} → r ≡ entries_refusal L k w (at (take (block_size L) es)) → r ≡ shape_refusal L k bs
     unfolding shape_refusal
     shape_is e = e ∙ same_refusal L k bs es small is (framed L bs framed_there) w ∙ rw width (sym (first_passes (frame_refusal L bs) _ framed_there))
 
-    pub bad_entries : {r : Refusal} {s : Stop} → s ≡ nothing r left m → r ≡ entries_refusal L k w (at (take (block_size_lem L) es)) → accepted r ≡ false → s ≡ block_stop L m left bs
+    pub bad_entries : {r : Refusal} {s : Stop} → s ≡ nothing r left m → r ≡ entries_refusal L k w (at (take (block_size L) es)) → accepted r ≡ false → s ≡ block_stop L m left bs
     bad_entries told e h = refused told (rw (← own) (shape_is e ∙ sym (block_parts L m k bs ∙ first_stops (shape_refusal L k bs) _ (ap accepted (sym (shape_is e)) ∙ h)))) h
 
-    module _ {r : Refusal} (e : r ≡ entries_refusal L k w (at (take (block_size_lem L) es))) (good : accepted r ≡ true) {c : Course} (walked : c ≡ course m (values_of m (take k es))) where
+    module _ {r : Refusal} (e : r ≡ entries_refusal L k w (at (take (block_size L) es))) (good : accepted r ≡ true) {c : Course} (walked : c ≡ course m (values_of m (take k es))) where
       there : c ≡ course m (values_at L m k bs)
       there = walked ∙ ap (λ (t : List ℕ). course m (values_of m t)) (own_entries L k bs es small is)
 
@@ -92,7 +92,7 @@ module _ (L : ℕ) (m : Mode) (left : ℕ) (bs : List ℕ) where
       good_block size sized h =
           let o : ordered m (values_at L m k bs) ≡ true = orderly h in
           let next : c.mode ≡ after_all m (values_at L m k bs) = ap (λ (t : Course). t.mode) there ∙ rw o in
-          let less : left - k ≡ left - block_size_lem L = omega arith in
+          let less : left - k ≡ left - block_size L = omega arith in
           rw (next, less, sized, width, own) (sym (block_taken L m left bs (rw (← own, block_parts L m k bs, shape_good, o))))
 
 -- what is left to take is what there was to take, but for what was taken
@@ -116,7 +116,7 @@ module _ {L : ℕ} {m₀ : Mode} {count : ℕ} {body : List ℕ} {m : Mode} {blo
     here : r ≡ block_stop L m left (drop place body)
     here = told ∙ rw (part_is place body)
 
-    refusal_here : r.refusal ≡ block_refusal L m (min (block_size_lem L) left) (drop place body)
+    refusal_here : r.refusal ≡ block_refusal L m (min (block_size L) left) (drop place body)
     refusal_here = ap (λ (s : Stop). s.refusal) here ∙ block_refusal_lem L m left (drop place body)
 
     pub stops_here : accepted r.refusal ≡ false
@@ -125,7 +125,7 @@ module _ {L : ℕ} {m₀ : Mode} {count : ℕ} {body : List ℕ} {m : Mode} {blo
         sym (t.same ∙ rw (stop_here L lanes m left (drop place body) pos (ap accepted (sym refusal_here) ∙ h), ← refusal_here, add-zero blocks, add-zero place))
 
     module _ (h : accepted r.refusal ≡ true) where
-      good : accepted (block_refusal L m (min (block_size_lem L) left) (drop place body)) ≡ true
+      good : accepted (block_refusal L m (min (block_size L) left) (drop place body)) ≡ true
       good = ap accepted (sym refusal_here) ∙ h
 
       took : r ≡ taking L m left (drop place body)
@@ -134,11 +134,11 @@ module _ {L : ℕ} {m₀ : Mode} {count : ℕ} {body : List ℕ} {m : Mode} {blo
       size_there : r.place ≡ size_at L (drop place body)
       size_there = ap (λ (s : Stop). s.place) took
 
-      pub left_there : r.left ≡ left - block_size_lem L
+      pub left_there : r.left ≡ left - block_size L
       left_there = ap (λ (s : Stop). s.left) took
 
       pub block_within : place + r.place ≤ length body
-      block_within = omega (arith, (block_passed L m (min (block_size_lem L) left) (drop place body) good).frame.whole, size_there, length-drop place body, t.within)
+      block_within = omega (arith, (block_passed L m (min (block_size L) left) (drop place body) good).frame.whole, size_there, length-drop place body, t.within)
 
       pub taking_more : Taking L m₀ count body r.mode (blocks + 1) (place + r.place) r.left
       taking_more =

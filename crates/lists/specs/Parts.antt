@@ -8,7 +8,7 @@ use Rattle.answers.specs.declared.Refusal.{Refusal}
 use Rattle.answers.specs.declared.Refusal.TheVariants.{Accepted, BadLanes, NoRoom, TooMany}
 use Rattle.answers.specs.Refusals.{refuse}
 use Rattle.answers.specs.Answers.{answer, written}
-use Rattle.layout.specs.Layout.{block_size_lem, is_lanes}
+use Rattle.layout.specs.Layout.{block_size, is_lanes}
 use Rattle.order.specs.Order.{starting}
 use Rattle.bodies.specs.List.{most}
 use Rattle.bodies.specs.declared.Stop.{Stop}
@@ -27,15 +27,15 @@ check_block_stop L m count bs = or_stop (refuse (not (is_lanes L)) BadLanes Acce
 abbrev pub read_block_refusal : ℕ → Mode → ℕ → List ℕ → ℕ → Refusal
 read_block_refusal L m count bs room =
     refuse (not (is_lanes L)) BadLanes
-    (refuse (ltb room (min (block_size_lem L) count)) NoRoom
-    (block_refusal L m (min (block_size_lem L) count) bs))
+    (refuse (ltb room (min (block_size L) count)) NoRoom
+    (block_refusal L m (min (block_size L) count) bs))
 
 -- how many of its values are the list's, and these at the front of the output
 abbrev pub read_block_answer : ℕ → Mode → ℕ → List ℕ → ℕ → Answer
-read_block_answer L m count bs room = answer (read_block_refusal L m count bs room) (min (block_size_lem L) count)
+read_block_answer L m count bs room = answer (read_block_refusal L m count bs room) (min (block_size L) count)
 
 abbrev pub read_block_output : ℕ → Mode → ℕ → List ℕ → List ℕ → List ℕ
-read_block_output L m count bs before = written (read_block_refusal L m count bs (length before)) (values_at L m (min (block_size_lem L) count) bs) before
+read_block_output L m count bs before = written (read_block_refusal L m count bs (length before)) (values_at L m (min (block_size L) count) bs) before
 
 -- a body of count values, m the list's mode: 1, 7; then block by block, at the end 11. At 1 and 7 no value is looked at, and
 -- `left` is 0.

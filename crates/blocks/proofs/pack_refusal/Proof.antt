@@ -6,7 +6,7 @@ use native.Mathlib.Omega.{arith}
 use borrow.Author.Tests.{lt-ltb, le-ltb, eq-eqb, ne_eqb}
 use lib.ListN.{length}
 use Rattle.answers.proofs.Guards.{denied, granted}
-use Rattle.layout.specs.Layout.{at, block_size_lem, payload_size, is_lanes}
+use Rattle.layout.specs.Layout.{at, block_size, payload_size, is_lanes}
 use Rattle.layout.proofs.Widths.{fits_exactly, fits_not}
 use Rattle.layout.specs.Claims.{Fit}
 use Rattle.modes.specs.Entries.{entries}
@@ -20,7 +20,7 @@ good : (c : tie.Else1) → is_lanes c.before.before.before.args.lanes ≡ true
 good c = granted c.before.is-lanes.ensures c.if1.false
 
 -- every entry is a number of 32 bits
-small : (c : tie.Else3) → Fit (entries c.before.before.before.before.before.args.mode (at c.before.before.before.before.before.args.values.now)) (block_size_lem c.before.before.before.before.before.args.lanes) 32
+small : (c : tie.Else3) → Fit (entries c.before.before.before.before.before.args.mode (at c.before.before.before.before.before.args.values.now)) (block_size c.before.before.before.before.before.args.lanes) 32
 small c =
     let g = c.before.before.before.before.shared-slice-known.given in
     let a = c.before.before.before.before.before.args in

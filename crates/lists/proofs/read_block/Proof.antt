@@ -5,7 +5,7 @@ use Prim.Native.Nat.{ℕ, min}
 use native.Mathlib.Omega.{arith}
 use lib.ListN.{length}
 use Rattle.answers.proofs.Guards.{denied, granted}
-use Rattle.layout.specs.Layout.{block_size_lem}
+use Rattle.layout.specs.Layout.{block_size}
 use Rattle.layout.proofs.LaneCounts.{lanes_of}
 use Rattle.answers.specs.Answers.{over}
 use Rattle.answers.specs.Refusals.{accepted}
@@ -29,7 +29,7 @@ returns c =
     let k = t.before.before.read-block-refusal.ensures in
     let h = denied t.before.is-accepted.ensures t.if1.true in
     let a = t.before.before.before.before.before.args in
-    (refused k h c.refused.ensures _, untouched k h (values_at a.lanes a.mode (min (block_size_lem a.lanes) a.count) a.bytes.now) _)
+    (refused k h c.refused.ensures _, untouched k h (values_at a.lanes a.mode (min (block_size a.lanes) a.count) a.bytes.now) _)
 
 mul-lesser : tie.Need-overflow-mul-lesser
 mul-lesser c = omega (arith, lanes_of _ (able c).lanes)
@@ -48,7 +48,7 @@ returns-2 c =
     let k = e.before.before.read-block-refusal.ensures in
     let a = e.before.before.before.before.before.args in (
       answered k (yes_accepted e) c.accepted.ensures l.lesser.ensures,
-      overwritten k (yes_accepted e) (values_at a.lanes a.mode (min (block_size_lem a.lanes) a.count) a.bytes.now) a.values.now
+      overwritten k (yes_accepted e) (values_at a.lanes a.mode (min (block_size a.lanes) a.count) a.bytes.now) a.values.now
           (d.fetch-last.ensures ∙ ap (λ (t : ℕ). over (values_at a.lanes a.mode t a.bytes.now) a.values.now) l.lesser.ensures),
     )
 

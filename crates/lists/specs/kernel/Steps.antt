@@ -1,6 +1,6 @@
 -- What the steps of reading hand on.
 use Rattle.std.specs.Prelude.{not, List, ℕ, zero, suc, ◌+◌, ◌-◌, eqb, drop}
-use Rattle.layout.specs.Layout.{block_size_lem}
+use Rattle.layout.specs.Layout.{block_size}
 use Rattle.layout.specs.Width.{fits, least_width}
 use Rattle.answers.specs.declared.Refusal.{Refusal}
 use Rattle.answers.specs.declared.Refusal.TheVariants.{Accepted, NotLeast, BadFill}
@@ -15,8 +15,8 @@ frames_from L bs (suc b) = or_else (frame_refusal L bs) (frames_from L (drop (si
 -- 10, 9: whether the entries e behind the first k are 0, and n is their least width. (To fit width 0 is to be 0.)
 unfoldable pub entries_refusal : ℕ → ℕ → ℕ → (ℕ → ℕ) → Refusal
 entries_refusal L k n e =
-    refuse (not (fits (λ i. e (k + i)) (block_size_lem L - k) 0)) BadFill
-    (refuse (not (eqb n (least_width e (block_size_lem L)))) NotLeast
+    refuse (not (fits (λ i. e (k + i)) (block_size L - k) 0)) BadFill
+    (refuse (not (eqb n (least_width e (block_size L)))) NotLeast
     Accepted)
 
 -- 5, 2, 5, 10, 9: what the bytes of a block are refused for, whatever values they stand for

@@ -2,7 +2,7 @@
 use mathlib.Core.Path.{sym, ◌∙◌}
 use borrow.Author.Tests.{eq-eqb, ne_eqb}
 use Rattle.answers.proofs.Guards.{denied, granted}
-use Rattle.layout.specs.Layout.{at, block_size_lem}
+use Rattle.layout.specs.Layout.{at, block_size}
 use Rattle.layout.specs.Width.{least_width}
 use Rattle.lists.specs.kernel.Steps.{entries_refusal}
 use Rattle.lists.proofs.BlockCalls.{width_is}
@@ -24,7 +24,7 @@ returns-2 c =
     let s = e.before.before.before.before in
     rw (
       sym (fill_part s.args.lanes s.args.count s.args.entries.now s.requires.2) ∙ granted e.before.zeros.ensures e.if1.false,
-      ne_eqb s.args.width (least_width (at s.args.entries.now) (block_size_lem s.args.lanes)) (λ q. c.if2.true (q ∙ sym (width_is _ s.requires.0 s.args.entries.now s.requires.2 c.before.before.num-bits.ensures))),
+      ne_eqb s.args.width (least_width (at s.args.entries.now) (block_size s.args.lanes)) (λ q. c.if2.true (q ∙ sym (width_is _ s.requires.0 s.args.entries.now s.requires.2 c.before.before.num-bits.ensures))),
     )
 
 returns-3 : tie.Need-returns-3
@@ -34,7 +34,7 @@ returns-3 c =
     let s = e.before.before.before.before in
     rw (
       sym (fill_part s.args.lanes s.args.count s.args.entries.now s.requires.2) ∙ granted e.before.zeros.ensures e.if1.false,
-      eq-eqb s.args.width (least_width (at s.args.entries.now) (block_size_lem s.args.lanes)) (c.if2.false ∙ width_is _ s.requires.0 s.args.entries.now s.requires.2 c.before.before.num-bits.ensures),
+      eq-eqb s.args.width (least_width (at s.args.entries.now) (block_size s.args.lanes)) (c.if2.false ∙ width_is _ s.requires.0 s.args.entries.now s.requires.2 c.before.before.num-bits.ensures),
     )
 
 pub entries_refusal_spec : {M : Type 1} → statement M

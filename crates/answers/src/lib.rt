@@ -1,4 +1,6 @@
 // The numbers of refusal of document 01, by their names, and what a call answers. Every call of the project stands on this.
+#![tactic(auto)]
+
 ghost use Rattle.std.specs.Prelude.{◌≡◌};
 ghost use Rattle.answers.specs.declared.Refusal.TheVariants.{Accepted};
 ghost use Rattle.answers.specs.Refusals.{number_of, accepted};

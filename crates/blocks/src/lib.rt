@@ -1,4 +1,6 @@
 // The four block calls of document 01. Each takes any input, tests it in the order of "Numbers of refusal", and writes nothing where it refuses.
+#![tactic(auto)]
+
 ghost use Rattle.std.specs.Prelude.{◌≡◌, ◌≤◌, length};
 ghost use Rattle.layout.specs.Layout.{payload_size};
 ghost use Rattle.blocks.specs.Calls.{size_refusal, size_answer, pack_refusal, pack_answer, pack_output, unpack_refusal, unpack_answer, unpack_output, width_refusal, width_answer};

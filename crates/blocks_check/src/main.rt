@@ -1,6 +1,8 @@
 // Runs the block calls on the table of cases on standard input. A case is a line with a label and words, and behind a `:` the kind of the
 // case and words that are not shown, as `case1 lanes=1 mode=plain: bytes width=2 given=1,2,3,0 step=0`. What stands before the `:` is
 // written, and behind it what the calls answer. checks/blocks.py makes the table, and works out the same answers from document 01.
+#![tactic(auto)]
+
 use cases::{all_calls, payload, trip, width_zero};
 use libc::{STDIN_FILENO, STDOUT_FILENO};
 use tables::buffers::table_room;

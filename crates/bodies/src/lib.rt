@@ -1,4 +1,6 @@
 // The body of a list and its reading, as definitions (specs/) with their laws (proofs/). No code but for a struct: the crate above cites it.
+#![tactic(auto)]
+
 use answers::Refusal;
 use modes::Mode;
 

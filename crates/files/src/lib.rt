@@ -1,4 +1,6 @@
 // The list file calls of document 01, and what they find a header by. Each takes any input; none limits the size of a file.
+#![tactic(auto)]
+
 ghost use Rattle.std.specs.Prelude.{◌≡◌, length};
 ghost use Rattle.files.specs.Beside.{nothing_found};
 ghost use Rattle.files.specs.kernel.Finding.{settings_in, header_found};

@@ -1,5 +1,7 @@
 // Runs the list file calls on the table of files on standard input. A line is a name, a blank, and the bytes of a file in hex; the name is
 // written, and behind it what the calls answer. checks/files.py makes the table, and works out the same answers from document 01.
+#![tactic(auto)]
+
 use calls::{show_header, show_read, show_written};
 use libc::{STDIN_FILENO, STDOUT_FILENO};
 use tables::buffers::{marked_bytes, table_room};

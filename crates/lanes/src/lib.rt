@@ -1,4 +1,6 @@
 // How many lanes there may be, rows of numbers, one for each lane, the width of one number, and a byte as a number.
+#![tactic(auto)]
+
 ghost use Rattle.std.specs.Prelude.{◌≡◌, ◌<◌};
 ghost use Rattle.layout.specs.Layout.{is_lanes};
 ghost use Rattle.layout.specs.Width.{significant};

@@ -1,4 +1,6 @@
 // A list file on standard input; on standard output each value in decimal on its own line, or the line `refused=` and the number.
+#![tactic(auto)]
+
 use programs::list_to_text;
 use streams::{read_input, warn_of_arguments, write_output};
 

@@ -1,5 +1,7 @@
 // The list calls of document 01, one that measures, and those on a part of a body: how far it can be read, and a block by itself. Each takes
 // any input, tests all of it before it writes anything, and writes nothing where it refuses.
+#![tactic(auto)]
+
 ghost use Rattle.std.specs.Prelude.{◌≡◌, length};
 ghost use Rattle.lists.specs.Calls.{measure_refusal, measure_answer, write_answer, write_output, read_refusal, read_answer, read_output};
 ghost use Rattle.lists.specs.Demand.{DemandReads, DemandWrites};

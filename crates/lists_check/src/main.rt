@@ -1,6 +1,8 @@
 // Runs the list calls on the table of cases on standard input. A case is a line with its kind, a name, and words, as
 // `list case8 lanes=4 mode=strict first=none count=3 values=0:1`; it is written, and behind it what the calls answer. checks/lists.py makes
 // the table, and works out the same answers from document 01.
+#![tactic(auto)]
+
 use cases::{body_case, list_case};
 use changes::change_case;
 use libc::{STDIN_FILENO, STDOUT_FILENO};

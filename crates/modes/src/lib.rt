@@ -1,4 +1,6 @@
 // The three modes: how a row of values becomes a row of entries, and back (the Rust's `Transformer` and `Sink`).
+#![tactic(auto)]
+
 ghost use Rattle.std.specs.Prelude.{◌≡◌};
 ghost use Rattle.layout.specs.Layout.{at};
 ghost use Rattle.lanes.specs.Rows.{IsRow, last_lane};

@@ -1,4 +1,6 @@
 // Replays the fixed list of the Rust's answers, which stands on standard input, and writes how many of them are ours.
+#![tactic(auto)]
+
 ghost use Rattle.std.specs.Prelude.{◌≤◌};
 
 use record::replay;

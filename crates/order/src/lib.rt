@@ -1,4 +1,6 @@
 // The mode's order, step by step: what may come next, and the mode past it.
+#![tactic(auto)]
+
 ghost use Rattle.std.specs.Prelude.{◌≡◌};
 ghost use Rattle.order.specs.Order.{starting_initial, starting, after, admits, ordered, next_entry, next_value, values_of, course};
 

@@ -1,4 +1,6 @@
 // What the two programs write for what they read: from bytes to bytes, for any input.
+#![tactic(auto)]
+
 ghost use Rattle.std.specs.Prelude.{◌≡◌, ◌≤◌, length, take};
 ghost use Rattle.bodies.specs.List.{most};
 ghost use Rattle.lists.specs.Calls.{measure_refusal};

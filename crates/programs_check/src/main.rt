@@ -1,6 +1,8 @@
 // Runs what the two programs do on the table of inputs on standard input. A line is a name, a blank, `r` for list_to_text or `w` for
 // text_to_list, and the pieces of the input, each with a blank before it; the name is written, and behind it what comes of the input.
 // checks/programs.py makes the table, and works out the same from document 01.
+#![tactic(auto)]
+
 ghost use Rattle.std.specs.Prelude.{◌≡◌, length};
 
 use calls::run_program;

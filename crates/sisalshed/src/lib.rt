@@ -1,5 +1,7 @@
 // The calls for C and Rust: what `include/sisalshed.h` declares. Each hands one call of ours on and asks nothing of the numbers, lengths
 // and bytes that it is given. A kind that is not 0 to 3 is 12, before every other number.
+#![tactic(auto)]
+
 ghost use Rattle.std.specs.Prelude.{◌≡◌, length};
 ghost use Rattle.sisalshed.specs.Calls.{size_crossed, pack_crossed, pack_left, unpack_crossed, unpack_left, width_crossed, measure_crossed, write_list_crossed, write_list_left, read_list_crossed, read_list_left, header_crossed, body_crossed, read_file_crossed, read_file_left, write_file_crossed, write_file_left};
 

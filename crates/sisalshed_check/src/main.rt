@@ -2,6 +2,8 @@
 // case, and the arguments as words; behind a `:` is the input, `values=` how many with `given=` the first of them, or `data=` bytes in hex.
 // What stands before the `:` is written, and behind it all that the call answers. checks/sisalshed.py makes the table, and works out the
 // same answers from document 01.
+#![tactic(auto)]
+
 use calls::{ask, show_body, show_header, show_read, show_written};
 use libc::{STDIN_FILENO, STDOUT_FILENO};
 use tables::buffers::{first_values, marked_bytes, marked_values, table_room};

@@ -1,4 +1,6 @@
 // Standard input and standard output, whole; and arguments, which nobody reads.
+#![tactic(auto)]
+
 ghost use Rattle.io.specs.Counts.{IsPrefixLen};
 
 use libc::{STDERR_FILENO, STDIN_FILENO, STDOUT_FILENO};

@@ -1,5 +1,7 @@
 // What the programs of checks share that read a table on standard input: checksums, bytes in hex, the words of a line, buffers that are full of
 // marks, and what is written of an answer.
+#![tactic(auto)]
+
 ghost use Rattle.std.specs.Prelude.{◌≡◌, ◌+◌, ◌*◌, ◌/◌, ◌%◌, ◌<◌, ◌≤◌, min, length, take};
 ghost use Rattle.layout.specs.Layout.{table};
 ghost use Rattle.answers.specs.Answers.{over};

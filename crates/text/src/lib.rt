@@ -1,4 +1,6 @@
 // Words, decimal numbers and lines as bytes: written at the front of an output, and found at the front of some bytes.
+#![tactic(auto)]
+
 ghost use Rattle.std.specs.Prelude.{◌≡◌, [], ◌++◌, ◌+◌, ◌-◌, ◌^◌, ◌≤◌, length};
 ghost use Rattle.answers.specs.Answers.{over};
 ghost use Rattle.text.specs.Text.{places, decimal, ended, numbered, fitted, begins, leading, value_from, leading_number, number_line};

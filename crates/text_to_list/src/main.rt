@@ -1,5 +1,7 @@
 // The lanes, mode and first lines and then one value a line on standard input; on standard output a list file, or the line `refused=` and
 // the number.
+#![tactic(auto)]
+
 use programs::text_to_list;
 use streams::{read_input, warn_of_arguments, write_output};
 

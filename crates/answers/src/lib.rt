@@ -6,7 +6,7 @@ ghost use Rattle.answers.specs.declared.Refusal.TheVariants.{Accepted};
 ghost use Rattle.answers.specs.Refusals.{number_of, accepted};
 ghost use Rattle.answers.specs.Answers.{answer};
 
-#[derive(Drop)]
+#[derive(Clone, Copy)]
 pub enum Refusal {
     // 0: nothing is refused
     Accepted,
@@ -66,7 +66,7 @@ impl Refusal {
 }
 
 // The refusal and a length, 0 where it is refused: of a payload, a body or a file in bytes, of a list that is read its count of values.
-#[derive(Drop)]
+#[derive(Clone, Copy)]
 pub struct Answer {
     pub refusal: Refusal,
     pub length: usize,

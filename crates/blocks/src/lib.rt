@@ -19,7 +19,7 @@ mod unpack;
 mod words;
 
 // The refusal and the width: 0 where it is refused.
-#[derive(Drop)]
+#[derive(Clone, Copy)]
 pub struct Width {
     pub refusal: Refusal,
     pub width: u32,

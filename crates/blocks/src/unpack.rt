@@ -20,7 +20,7 @@ fn mask(width: u32) -> u32
 }
 
 // A row of entries, and the bits that are left of the words read.
-#[derive(Drop)]
+#[derive(Clone, Copy)]
 pub(crate) struct Unpacked {
     pub entries: [u32; 8],
     pub rest: [u32; 8],

@@ -6,7 +6,7 @@ use modes::Mode;
 
 // Where reading stopped: at what refusal, how many blocks it had taken, the place in the bytes where they end, how many values were left,
 // and the mode past those that the blocks hold.
-#[derive(Drop)]
+#[derive(Clone, Copy)]
 pub struct Stop {
     pub refusal: Refusal,
     pub blocks: usize,

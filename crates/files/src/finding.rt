@@ -7,7 +7,7 @@ use order::starting_initial;
 use text::{Numeral, begins, number_line};
 
 // What the mode and first lines say, and how long they are; plain and 0 where there are none.
-#[derive(Drop)]
+#[derive(Clone, Copy)]
 pub(crate) struct ModeLines {
     pub(crate) mode: Mode,
     pub(crate) length: usize,
@@ -64,7 +64,7 @@ pub(crate) fn mode_lines(bytes: &[u8]) -> ModeLines
 }
 
 // What the count and bytes lines say, and how long they are with the empty line behind them; 0, 0 and 0 where there are none.
-#[derive(Drop)]
+#[derive(Clone, Copy)]
 pub(crate) struct SizeLines {
     pub(crate) count: u32,
     pub(crate) bytes: u32,

@@ -11,7 +11,7 @@ use order::starting_initial;
 use text::{put_line, put_number_line};
 
 // What the five lines say.
-#[derive(Drop)]
+#[derive(Clone, Copy)]
 pub struct Header {
     pub lanes: u32,
     pub mode: Mode,

@@ -19,7 +19,7 @@ mod finding;
 pub mod heading;
 
 // How a list is packed, as the lanes, mode and first lines say it, and how long these lines are.
-#[derive(Drop)]
+#[derive(Clone, Copy)]
 pub struct SettingsFound {
     pub refusal: Refusal,
     pub lanes: u32,
@@ -57,7 +57,7 @@ pub fn settings(text: &[u8]) -> SettingsFound
 }
 
 // A header that was found, and where the body starts behind it.
-#[derive(Drop)]
+#[derive(Clone, Copy)]
 pub struct Found {
     pub refusal: Refusal,
     pub header: Header,
@@ -122,7 +122,7 @@ pub fn find_file(file: &[u8]) -> Found
 }
 
 // What the header call answers.
-#[derive(Drop)]
+#[derive(Clone, Copy)]
 pub struct HeaderAnswer {
     pub refusal: Refusal,
     pub header: Header,

@@ -10,13 +10,13 @@ ghost use Rattle.modes.specs.Entries.{first_of, entry_of, values_from};
 use lanes::scalar::{add, compute_delta, integrate_delta, set1, sub};
 
 // What strict starts from: none or a number (the Rust's `Option<u32>`).
-#[derive(Drop)]
+#[derive(Clone, Copy)]
 pub enum Initial {
     None,
     Number(u32),
 }
 
-#[derive(Drop)]
+#[derive(Clone, Copy)]
 pub enum Mode {
     Plain,
     // the first number

@@ -99,7 +99,7 @@ pub fn in_order(mode: Mode, values: &[u32]) -> bool
 }
 
 // Whether some values are in order, and the mode past them; the mode before them where they are not.
-#[derive(Drop)]
+#[derive(Clone, Copy)]
 pub struct Course {
     pub orderly: bool,
     pub mode: Mode,

@@ -32,7 +32,7 @@ fn keep(value: u32, place: usize, values: &mut [u32])
 }
 
 // How many values there are, and whether their lines are all that there is.
-#[derive(Drop)]
+#[derive(Clone, Copy)]
 pub(crate) struct Lines {
     pub(crate) sound: bool,
     pub(crate) count: usize,

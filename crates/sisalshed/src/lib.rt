@@ -11,7 +11,7 @@ mod crossing;
 
 // The number of the refusal, and the length, the count or the width: 0 where it is refused.
 #[repr(C)]
-#[derive(Drop)]
+#[derive(Clone, Copy)]
 pub struct CAnswer {
     pub number: u32,
     pub length: usize,
@@ -19,7 +19,7 @@ pub struct CAnswer {
 
 // What a file's five lines say, the mode as two numbers; all 0 but the number where it is refused.
 #[repr(C)]
-#[derive(Drop)]
+#[derive(Clone, Copy)]
 pub struct CHeader {
     pub number: u32,
     pub lanes: u32,
@@ -31,7 +31,7 @@ pub struct CHeader {
 
 // Where a body stands in its file: 0 and 0 where it is refused.
 #[repr(C)]
-#[derive(Drop)]
+#[derive(Clone, Copy)]
 pub struct CBody {
     pub number: u32,
     pub start: usize,

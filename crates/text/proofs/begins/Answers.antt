@@ -1,5 +1,5 @@
 -- Bytes that are too short begin with no such text; a byte that differs decides, and past the text's end nothing is left to compare.
-use Rattle.std.proofs.Common.{◌≡◌, sym, ◌∙◌, ap, arith, List, ℕ, drop}
+use Rattle.std.proofs.Common.{sym, ◌∙◌, ap, arith, List, ℕ, drop}
 use lib.ListN.{drop_of_length-le}
 use Rattle.text.specs.Text.{begins}
 use Rattle.text.proofs.Beginnings.{begins_short, begins_step, begins_stop, begins_none}

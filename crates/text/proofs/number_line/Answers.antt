@@ -1,5 +1,5 @@
 -- The name, and behind it the number's line, which is written into a place of its own and held against the bytes.
-use Rattle.std.proofs.Common.{◌≡◌, ◌≤◌, ◌-◌, [], Bool, true, refl, sym, ◌∙◌, ap, arith, List, ℕ, length, take, drop, replicate}
+use Rattle.std.proofs.Common.{◌≡◌, ◌≤◌, ◌-◌, [], Bool, true, refl, sym, ◌∙◌, ap, List, ℕ, length, take, drop, replicate}
 use borrow.Rule.Slice.PartMut.{mid_of}
 use Rattle.answers.specs.Answers.{over}
 use Rattle.answers.proofs.Parts.{part_is}

@@ -1,5 +1,4 @@
 -- Where the bytes end, where a byte is no digit, and past ten digits, nothing is left to read.
-use Rattle.std.proofs.Common.{arith}
 use Rattle.text.proofs.Numbers.{reading_past, reading_ten, reading_low, reading_high, reading_more}
 use Rattle.text.proofs.ten_digits.Goals as goal
 

@@ -1,5 +1,5 @@
 -- Where the word has room for more than the row, all is held; else it is stored, and what is over of the row is held.
-use Rattle.std.proofs.Common.{◌≡◌, ℕ, ◌+◌, ◌*◌, ◌/◌, ◌≤◌, ◌<◌, length, arith}
+use Rattle.std.proofs.Common.{◌≡◌, ℕ, ◌+◌, ◌*◌, ◌-◌, ◌/◌, ◌%◌, ◌≤◌, ◌<◌, length, arith}
 use Rattle.answers.proofs.Parts.{part_length}
 use Rattle.blocks.proofs.Parts.{words_back}
 use Rattle.blocks.proofs.Places.{word_room}

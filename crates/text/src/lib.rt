@@ -112,7 +112,7 @@ pub fn begins(text: &[u8], bytes: &[u8]) -> bool
 }
 
 // The number that the digits stand for that the bytes begin with, ten of them at most.
-#[tactic(auto, using(crate::proofs::Numbers::reading_past, crate::proofs::Numbers::reading_low, crate::proofs::Numbers::reading_high, crate::proofs::Numbers::reading_ten))]
+#[tactic(auto, using(crate::proofs::Numbers::reading_stops))]
 fn ten_digits(bytes: &[u8]) -> usize
     ensures { result ≡ value_from 0 (leading 10 bytes.now) }
 {

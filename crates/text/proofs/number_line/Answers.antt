@@ -10,19 +10,36 @@ use Rattle.text.proofs.Beginnings.{begins_within}
 use Rattle.text.proofs.Found.{no_name, no_number, both}
 use Rattle.text.proofs.number_line.Goals as goal
 
--- bytes that begin with the name are as many
-named : (name bs : List ℕ) (r : Bool) → r ≡ begins name bs → r ≡ true → length name ≤ length bs
-named name bs r told is = begins_within name bs (sym told ∙ is)
+-- the number's line, and the place that it is written into
+abbrev number : ℕ → List ℕ
+number v = numbered [] v
 
--- eleven bytes have room for the number's line
-written : (v n : ℕ) (ds : List ℕ) → n ≡ length (fitted (numbered [] v) (replicate 11 0)) → ds ≡ over (fitted (numbered [] v) (replicate 11 0)) (replicate 11 0)
-    → (n ≡ length (numbered [] v)) × (ds ≡ over (numbered [] v) (replicate 11 0))
-written v n ds value out = put_whole {t₀ = numbered [] v} (replicate 11 0) refl (number_line_short [] v) (value, out)
+abbrev place : List ℕ
+place = replicate 11 0
 
-there : (v n : ℕ) (ds : List ℕ) → n ≡ length (fitted (numbered [] v) (replicate 11 0)) → ds ≡ over (fitted (numbered [] v) (replicate 11 0)) (replicate 11 0) → take n ds ≡ numbered [] v
-there v n ds value out =
-    let w = written v n ds value out in
-    ap (take n) w.1 ∙ take_over n (numbered [] v) (replicate 11 0) (sym w.0)
+-- eleven bytes have room for the line: ds came back, with n bytes written
+module _ (v n : ℕ) (ds : List ℕ) (value : n ≡ length (fitted (number v) place)) (out : ds ≡ over (fitted (number v) place) place) where
+  written : (n ≡ length (number v)) × (ds ≡ over (number v) place)
+  written = put_whole {t₀ = number v} place refl (number_line_short [] v) (value, out)
+
+  there : take n ds ≡ number v
+  there = ap (take n) written.1 ∙ take_over n (number v) place (sym written.0)
+
+module _ (name bs : List ℕ) where
+  -- the bytes behind the name
+  abbrev behind : List ℕ
+  behind = mid_of (length name) (length bs - length name) bs
+
+  -- bytes that begin with the name are as many
+  named : (r : Bool) → r ≡ begins name bs → r ≡ true → length name ≤ length bs
+  named r told is = begins_within name bs (sym told ∙ is)
+
+  valued : (v : ℕ) → v ≡ leading_number behind → v ≡ leading_number (drop (length name) bs)
+  valued v is = is ∙ ap leading_number (part_is (length name) bs)
+
+  -- what the second test told
+  told : (v : ℕ) {text : List ℕ} {r : Bool} → text ≡ number v → r ≡ begins text behind → r ≡ begins (number v) (drop (length name) bs)
+  told v t is = is ∙ rw (t, part_is (length name) bs)
 
 pub returns-then-not-begins : goal.returns-then-not-begins
 returns-then-not-begins c = no_name c.args.name.now c.args.bytes.now _ refl (sym c.begins.ensures ∙ c.if-not-begins.true)
@@ -39,36 +56,34 @@ slice_bounds-begins-count c = named c.args.name.now c.args.bytes.now _ c.begins.
 pub slice_bounds-begins-start : goal.slice_bounds-begins-start
 slice_bounds-begins-start c = named c.args.name.now c.args.bytes.now _ c.begins.ensures c.if-not-begins.false
 
--- what the second test told: the line's bytes against the bytes behind the name
-told : (name bs : List ℕ) (v n : ℕ) (ds : List ℕ) (r : Bool) → n ≡ length (fitted (numbered [] v) (replicate 11 0)) → ds ≡ over (fitted (numbered [] v) (replicate 11 0)) (replicate 11 0)
-    → r ≡ begins (take n ds) (mid_of (length name) (length bs - length name) bs) → r ≡ begins (numbered [] v) (drop (length name) bs)
-told name bs v n ds r value out is =
-    let t : take n ds ≡ numbered [] v = there v n ds value out in
-    is ∙ rw (t, part_is (length name) bs)
-
-valued : (name bs : List ℕ) (v : ℕ) → v ≡ leading_number (mid_of (length name) (length bs - length name) bs) → v ≡ leading_number (drop (length name) bs)
-valued name bs v is = is ∙ ap leading_number (part_is (length name) bs)
-
 pub returns-then-not-begins-2 : goal.returns-then-not-begins-2
 returns-then-not-begins-2 c =
+    let name = c.args.name.now in
+    let bs = c.args.bytes.now in
+    let v = c.leading_number-value in
     let p = c.put_number_line-length in
+    let t = there v.result p.result p.new.out p.ensures.value p.ensures.out_after in
     no_number
-    c.args.name.now
-    c.args.bytes.now
+    name
+    bs
     _
-    (valued c.args.name.now c.args.bytes.now c.leading_number-value.result c.leading_number-value.ensures)
+    (valued name bs v.result v.ensures)
     (sym c.begins.ensures ∙ c.if-not-begins.false)
-    (sym (told c.args.name.now c.args.bytes.now c.leading_number-value.result p.result p.new.out _ p.ensures.value p.ensures.out_after c.begins-2.ensures) ∙ c.if-not-begins-2.true)
+    (sym (told name bs v.result t c.begins-2.ensures) ∙ c.if-not-begins-2.true)
 
 pub returns : goal.returns
 returns c =
+    let name = c.args.name.now in
+    let bs = c.args.bytes.now in
+    let v = c.leading_number-value in
     let p = c.put_number_line-length in
-    let w = written c.leading_number-value.result p.result p.new.out p.ensures.value p.ensures.out_after in
+    let w = written v.result p.result p.new.out p.ensures.value p.ensures.out_after in
+    let t = there v.result p.result p.new.out p.ensures.value p.ensures.out_after in
     rw w.0
     (both
-    c.args.name.now
-    c.args.bytes.now
+    name
+    bs
     _
-    (valued c.args.name.now c.args.bytes.now c.leading_number-value.result c.leading_number-value.ensures)
+    (valued name bs v.result v.ensures)
     (sym c.begins.ensures ∙ c.if-not-begins.false)
-    (sym (told c.args.name.now c.args.bytes.now c.leading_number-value.result p.result p.new.out _ p.ensures.value p.ensures.out_after c.begins-2.ensures) ∙ c.if-not-begins-2.false))
+    (sym (told name bs v.result t c.begins-2.ensures) ∙ c.if-not-begins-2.false))

@@ -7,15 +7,20 @@ use Rattle.text.proofs.Decimals.{decimal_short}
 use Rattle.text.proofs.Lines.{put_whole}
 use Rattle.text.proofs.put_number_line.Goals as goal
 
-there : (x n : ℕ) (ds : List ℕ) → n ≡ length (fitted (decimal x) (replicate 10 0)) → ds ≡ over (fitted (decimal x) (replicate 10 0)) (replicate 10 0) → take n ds ≡ decimal x
+abbrev place : List ℕ
+place = replicate 10 0
+
+there : (x n : ℕ) (ds : List ℕ) → n ≡ length (fitted (decimal x) place) → ds ≡ over (fitted (decimal x) place) place → take n ds ≡ decimal x
 there x n ds value out =
-    let w : (n ≡ length (decimal x)) × (ds ≡ over (decimal x) (replicate 10 0)) = put_whole {t₀ = decimal x} (replicate 10 0) refl (decimal_short x) (value, out) in
-    ap (take n) w.1 ∙ take_over n (decimal x) (replicate 10 0) (sym w.0)
+    let w : (n ≡ length (decimal x)) × (ds ≡ over (decimal x) place) = put_whole {t₀ = decimal x} place refl (decimal_short x) (value, out) in
+    ap (take n) w.1 ∙ take_over n (decimal x) place (sym w.0)
 
 pub returns-clause-value : goal.returns-clause-value
 returns-clause-value c =
-    rw (there c.args.x c.put_decimal-length.result c.put_decimal-length.new.out c.put_decimal-length.ensures.value c.put_decimal-length.ensures.out_after) at c.put_line.ensures.value
+    let d = c.put_decimal-length in
+    rw (there c.args.x d.result d.new.out d.ensures.value d.ensures.out_after) at c.put_line.ensures.value
 
 pub returns-clause-out_after : goal.returns-clause-out_after
 returns-clause-out_after c =
-    rw (there c.args.x c.put_decimal-length.result c.put_decimal-length.new.out c.put_decimal-length.ensures.value c.put_decimal-length.ensures.out_after) at c.put_line.ensures.out_after
+    let d = c.put_decimal-length in
+    rw (there c.args.x d.result d.new.out d.ensures.value d.ensures.out_after) at c.put_line.ensures.out_after

@@ -1,5 +1,5 @@
 -- Each test that passed or failed is the definition's, in its order; a block fits a width exactly from its least width on.
-use Rattle.std.proofs.Common.{◌≡◌, true, sym, ◌∙◌, ◌*◌, length, arith, eq-eqb}
+use Rattle.std.proofs.Common.{sym, ◌∙◌, ◌*◌, length, arith, eq-eqb}
 use borrow.Author.Tests.{le-ltb}
 use Rattle.layout.specs.Layout.{at, payload_size}
 use Rattle.layout.proofs.Widths.{fits_exactly, fits_not}

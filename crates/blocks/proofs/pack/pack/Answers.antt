@@ -1,5 +1,5 @@
 -- A row more of values becomes a row of entries, and `pack_row` keeps `Packing`.
-use Rattle.std.proofs.Common.{◌≡◌, ℕ, ◌+◌, ◌*◌, ◌<◌, List, ◌∙◌, arith}
+use Rattle.std.proofs.Common.{◌+◌, ◌*◌, ◌∙◌, arith}
 use Rattle.layout.specs.Layout.{at}
 use Rattle.answers.proofs.Parts.{part_at}
 use Rattle.layout.proofs.Products.{below_mul}

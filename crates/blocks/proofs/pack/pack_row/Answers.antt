@@ -1,5 +1,5 @@
 -- Where the word has room for more than the row, all is held; else it is stored, and what is over of the row is held.
-use Rattle.std.proofs.Common.{◌≡◌, ℕ, ◌+◌, ◌*◌, ◌-◌, ◌/◌, ◌%◌, ◌≤◌, ◌<◌, length, arith}
+use Rattle.std.proofs.Common.{ℕ, ◌+◌, ◌*◌, ◌-◌, ◌/◌, ◌%◌, ◌≤◌, ◌<◌, arith}
 use Rattle.answers.proofs.Parts.{part_length}
 use Rattle.blocks.proofs.Parts.{words_back}
 use Rattle.blocks.proofs.Places.{word_room}
@@ -27,8 +27,11 @@ pub store_words-requires : goal.store_words-requires
 store_words-requires c =
     let a = c.args in (
       omega arith,
-      omega (arith, room a.lanes a.width a.row c.requires.lanes_nonzero.3 c.if-width-remaining.false c.requires.lanes_nonzero.4,
-          part_length (4 * (a.row * a.width / 32 * a.lanes)) a.out.now),
+      omega (
+        arith,
+        room a.lanes a.width a.row c.requires.lanes_nonzero.3 c.if-width-remaining.false c.requires.lanes_nonzero.4,
+        part_length (4 * (a.row * a.width / 32 * a.lanes)) a.out.now,
+      ),
     )
 
 pub returns : goal.returns
@@ -38,4 +41,4 @@ returns c = λ e before is p.
     pack_store p q.1 a.entries is c.requires.by_index c.left_shift_32.ensures c.op_or-out_register.ensures
     q.0 c.if-width-remaining.false q.2 c.right_shift_32.ensures
     (words_back (a.row * a.width / 32 * a.lanes) a.lanes c.op_or-out_register.result a.out.now _
-        (omega (arith, room a.lanes a.width a.row q.3 c.if-width-remaining.false q.4)) c.store_words.ensures)
+    (omega (arith, room a.lanes a.width a.row q.3 c.if-width-remaining.false q.4)) c.store_words.ensures)

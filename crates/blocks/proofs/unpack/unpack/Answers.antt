@@ -1,5 +1,5 @@
 -- A row more of entries becomes a row of values, which is stored at its place.
-use Rattle.std.proofs.Common.{◌≡◌, ℕ, ◌+◌, ◌*◌, ◌≤◌, ◌<◌, length, arith}
+use Rattle.std.proofs.Common.{ℕ, ◌+◌, ◌*◌, ◌≤◌, ◌<◌, length, arith}
 use Rattle.answers.proofs.Parts.{part_length}
 use Rattle.layout.specs.Layout.{payload_entry}
 use Rattle.layout.proofs.Products.{below_mul}

@@ -34,8 +34,11 @@ pub load_words-in_register-requires : goal.load_words-in_register-requires
 load_words-in_register-requires c =
     let a = c.args in (
       c.requires.lanes_bound.0,
-      omega (arith, room a.lanes a.width a.row c.requires.lanes_bound.2 c.if-width-left.false c.requires.lanes_bound.3,
-          part_length (4 * ((a.row * a.width + 31) / 32 * a.lanes)) a.bytes.now),
+      omega (
+        arith,
+        room a.lanes a.width a.row c.requires.lanes_bound.2 c.if-width-left.false c.requires.lanes_bound.3,
+        part_length (4 * ((a.row * a.width + 31) / 32 * a.lanes)) a.bytes.now,
+      ),
     )
 
 -- what is loaded is the next word of each lane

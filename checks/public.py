@@ -15,11 +15,18 @@ import sys
 
 TOP = pathlib.Path(__file__).resolve().parent.parent
 # docs/PROMISES.md, "What no contract says": what is read, and what is written to a stream
-NOT_DETERMINED = {("streams", name) for name in ("read_input", "write_output", "warn_of_arguments")}
+NOT_DETERMINED = {("streams", name) for name in ("read_full", "read_input", "write_output", "warn_of_arguments")}
 NOT_DETERMINED |= {("tables", f"line::{name}") for name in ("named", "write", "answer", "answer_and_sum", "list", "hex", "end")}
 PUBLIC = re.compile(r'^ *pub (?:(?:unsafe|const) )*(?:extern "C" )?fn (\w+)(?:<.*?>)?\(', re.M)
 CONTRACT = re.compile(r"^use Rattle\.(\w+)\.proofs\.((?:\w+\.)*\w+)\.(Reads|Kinds) as (\w+)$", re.M)
 ASKS_NOTHING = re.compile(r"^(\w+)_asks_nothing : (AsksNothing) (\w+)_kinds\.ps \3\.Pre()$", re.M)
+# The same of a function that takes a handle, a reader or a writer of any type, where that borrows nothing itself, and with no other premise:
+# written out, or in a module of such functions.
+ANY_TYPE = r"\(T : RattleType\) \(laws : Laws T\)(?: \(\w+ : \w*Ghosts T\.Denot\) \(\w+ : Dict\))+"
+OF_ANY = r"(\w+)_asks_nothing : %s(AsksNothing) \((\w+)_kinds\.ps T laws\) \(\3\.Pre T laws[ \w]*\)()$"
+ASKS_NOTHING_OF_ANY = re.compile("^" + OF_ANY % (ANY_TYPE + r" → T\.lives ≡ \[\]\s+→ "), re.M)
+ASKS_NOTHING_IN_MODULE = re.compile("^  " + OF_ANY % "", re.M)
+MODULE = re.compile(r"^module _ " + ANY_TYPE + r" \(free : T\.lives ≡ \[\]\) where\n((?:  .*\n|\n)+)", re.M)
 DETERMINED = re.compile(r"^(\w+)_determined : (\w*Determined) (\w+)_kinds\.ps \3_kinds\.r \3\.Post(.*)$", re.M)
 
 
@@ -55,10 +62,10 @@ def proved(crate):
     text = table.read_text()
     contracts = {(alias, part): path for package, path, part, alias in CONTRACT.findall(text) if package == crate.name}
 
-    def lines(shape):
+    def lines(*shapes):
         """The functions that have such a line, over their own contract. A line has the function's name, or its module's and its own."""
         found = {}
-        for line, said, alias, of in shape.findall(text):
+        for line, said, alias, of in (of_shape for shape, where in shapes for of_shape in shape.findall(where)):
             path = contracts.get((alias, "Reads"), "")
             names = {path.split(".")[-1], "_".join(path.split(".")[-2:])}
             if path == contracts.get((f"{alias}_kinds", "Kinds")) and line in names:
@@ -66,7 +73,8 @@ def proved(crate):
                 found |= {name: said + of for name in of_name}
         return found
 
-    return lines(ASKS_NOTHING), lines(DETERMINED)
+    modules_of_any = "".join(MODULE.findall(text))
+    return lines((ASKS_NOTHING, text), (ASKS_NOTHING_OF_ANY, text), (ASKS_NOTHING_IN_MODULE, modules_of_any)), lines((DETERMINED, text))
 
 
 def main():

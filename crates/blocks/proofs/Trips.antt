@@ -9,7 +9,6 @@ use lib.Pow.{pow_mono}
 use Rattle.layout.specs.Layout.{at, block_size, payload_size, packed, payload_entry}
 use Rattle.answers.specs.Answers.{over}
 use Rattle.answers.proofs.Answers.{overwritten}
-use Rattle.layout.specs.Width.{fits}
 use Rattle.layout.proofs.Tables.{table_at, table_of, length_packed}
 use Rattle.layout.proofs.RoundTrip.{entry_packed, packed_entry, packed_ext, entry_fits}
 use Rattle.layout.proofs.Widths.{fits_of, of_fits}

@@ -1,16 +1,16 @@
 -- Which numbers reading a body may give: 5, 2, 10, 9, 8, 11, and none other.
 use mathlib.Core.Bool.{not}
 use mathlib.Core.List.{List}
-use Prim.Native.Nat.{ℕ, zero, suc, ◌+◌, ◌-◌}
+use Prim.Native.Nat.{ℕ, zero, suc, ◌+◌, ◌-◌, min}
 use lib.Dec.{ltb, eqb}
-use lib.ListN.{length}
+use lib.ListN.{length, drop}
 use Rattle.layout.specs.Layout.{block_size}
 use Rattle.layout.specs.Width.{least_width}
 use Rattle.modes.specs.declared.Mode.{Mode}
 use Rattle.answers.specs.declared.Refusal.{Refusal}
 use Rattle.answers.specs.declared.Refusal.TheVariants.{Accepted, BadWidth, CutShort, OutOfOrder, NotLeast, BadFill, LeftOver}
 use Rattle.answers.proofs.Refusals.{refused, either}
-use Rattle.order.specs.Order.{ordered}
+use Rattle.order.specs.Order.{ordered, after_all}
 use Rattle.bodies.specs.Body.{block_count}
 use Rattle.bodies.specs.Reading.{width_at, size_at, entry_at, values_at, all_zero, refuse_values, block_refusal, refusal_from, body_refusal}
 
@@ -31,7 +31,9 @@ module _ (P : Refusal → Type 0) (none : P Accepted) (wide : P BadWidth) (cut :
   from : (L : ℕ) (m : Mode) (count : ℕ) (bs : List ℕ) (b : ℕ) → P (refusal_from L m count bs b)
   unfolding refusal_from
   from L m count bs zero = refused P (ltb 0 (length bs)) LeftOver Accepted left none
-  from L m count bs (suc b) = either P _ _ (block_only _ _ _ _) (from _ _ _ _ b)
+  from L m count bs (suc b) =
+      let k : ℕ = min (block_size L) count in
+      either P _ _ (block_only _ _ _ _) (from L (after_all m (values_at L m k bs)) (count - block_size L) (drop (size_at L bs) bs) b)
 
   pub body_only : (L : ℕ) (m : Mode) (count : ℕ) (bs : List ℕ) → P (body_refusal L m count bs)
   body_only L m count bs = from L m count bs (block_count L count)

@@ -1,7 +1,7 @@
 -- Laws of a lane: its numbers, from the side of the entries and from the side of the bytes.
 use mathlib.Core.Path.{◌≡◌, sym, ◌∙◌, ap}
 use mathlib.Core.List.{List}
-use Prim.Native.Nat.{ℕ, ◌+◌, ◌*◌, ◌-◌, ◌/◌, ◌%◌, ◌^◌, ◌<◌}
+use Prim.Native.Nat.{ℕ, ◌+◌, ◌*◌, ◌/◌, ◌%◌, ◌^◌, ◌<◌}
 use native.Mathlib.Nat.{mod-eq_of_lt, mul_comm, add-zero, add_assoc}
 use native.Mathlib.Omega.{arith}
 use lib.Arith.{digits_div, digits_mod}

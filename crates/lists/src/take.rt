@@ -17,6 +17,7 @@ use modes::Mode;
 use order::walk;
 
 // 5, 2, 5: whether the bytes begin with a whole block.
+#[tactic(auto, unfolding(bodies::specs::Reading::frame_refusal))]
 pub(crate) fn frame_refusal(lanes: usize, bytes: &[u8]) -> Refusal
     requires { is_lanes lanes ≡ true }
     ensures { result ≡ frame_refusal lanes bytes.now }

@@ -1,6 +1,6 @@
 -- Entries and values undo each other, in all three modes.
 use mathlib.Core.Path.{◌≡◌, refl, ap, ap₂}
-use Prim.Native.Nat.{ℕ, zero, suc, ◌-◌, ◌^◌, ◌≤◌, ◌<◌}
+use Prim.Native.Nat.{ℕ, zero, suc, ◌^◌, ◌≤◌, ◌<◌}
 use native.Mathlib.Omega.{arith}
 use Rattle.lanes.specs.Sums.{before}
 use Rattle.modes.specs.Entries.{first_of, entry_of, value_of, entries, values_from, values}

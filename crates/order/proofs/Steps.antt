@@ -2,7 +2,7 @@
 use mathlib.Core.Path.{◌≡◌, refl, ◌∙◌, ap, ap₂}
 use mathlib.Core.Bool.{Bool, true, false, ◌&&◌}
 use mathlib.Core.List.{List, [], ◌∷◌, ◌++◌}
-use Prim.Native.Nat.{ℕ, suc, ◌+◌, ◌-◌, ◌^◌, ◌<◌}
+use Prim.Native.Nat.{ℕ, suc, ◌^◌, ◌<◌}
 use native.Mathlib.Omega.{arith}
 use borrow.Author.Tests.{leb-true, ltb-true}
 use lib.ListN.{length}

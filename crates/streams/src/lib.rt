@@ -1,43 +1,58 @@
 // Standard input and standard output, whole; and arguments, which nobody reads.
 #![tactic(auto)]
 
-ghost use Rattle.io.specs.Counts.{IsPrefixLen};
+ghost use Rattle.std.specs.Prelude.{◌≡◌, ◌<◌, ◌≤◌, IfOk, length, take};
+ghost use Rattle.std.specs.Io.{ReadsAtMost};
+ghost use Rattle.std.specs.Io.KnownBytes.{Consumes, IsAtEnd};
 
-use libc::{STDERR_FILENO, STDIN_FILENO, STDOUT_FILENO};
+use std::env::{Env, FillError};
+use std::io;
+use std::io::Read;
 
-// Reads standard input to its end, at the front of `bytes`, and answers how much there is: all of `bytes` where there is more, and where
-// a read fails. Who lends one byte more than an input may have sees both as an input that is too long, and never as a shorter one.
-pub fn read_input(bytes: &mut [u8]) -> usize
-    ensures { IsPrefixLen result bytes.new }
+// Reads until `bytes` is full or the input ends, and answers how many bytes of the input stand at the front of `bytes`.
+pub fn read_full<R: Read>(reader: &mut R, bytes: &mut [u8]) -> io::Result<usize>
+    ensures in_bounds { ReadsAtMost result bytes.new }
+    ensures front { IfOk result (λ n. Consumes (R.remaining reader.old) (R.remaining reader.new) (take n bytes.new)) }
+    ensures end { IfOk result (λ n. n < length bytes.new → IsAtEnd (R.remaining reader.new)) }
 {
     let mut done: usize = 0;
     while done < bytes.len() {
-        let got = libc::read(STDIN_FILENO, &mut bytes[done..]);
-        if got < 0 {
-            return bytes.len();
-        }
-        let more = io::count(got, &bytes[done..]);
+        let more = reader.read(&mut bytes[done..])?;
         if more == 0 {
-            return done;
+            return Ok(done);
         }
         done += more;
     }
-    done
+    Ok(done)
+}
+
+// Reads an input to its end, at the front of `bytes`, and answers how much there is: all of `bytes` where there is more, and where a read
+// fails. Who lends one byte more than an input may have sees both as an input that is too long, and never as a shorter one.
+pub fn read_input<R: Read>(reader: &mut R, bytes: &mut [u8]) -> usize
+    ensures in_bounds { (result ≤ length bytes.new) × (result ≡ length (take result bytes.new)) }
+    ensures front { result < length bytes.new → Consumes (R.remaining reader.old) (R.remaining reader.new) (take result bytes.new) }
+    ensures end { result < length bytes.new → IsAtEnd (R.remaining reader.new) }
+{
+    match read_full(reader, bytes) {
+        Ok(size) => size,
+        Err(_) => bytes.len(),
+    }
 }
 
 // Writes all of the bytes to standard output, however little a write takes. Where a write fails, says so on standard error.
-pub fn write_output(bytes: &[u8]) {
-    if !io::write_all(STDOUT_FILENO, bytes) {
-        io::write_all(STDERR_FILENO, b"the output could not be written whole\n");
+pub fn write_output(rt: &(impl Print + Eprint), bytes: &[u8]) {
+    if rt.write_all(bytes).is_err() {
+        let _ = rt.eprintln("the output could not be written whole");
     }
 }
 
 // Where the program was given an argument, says on standard error that it reads none.
-pub fn warn_of_arguments() {
-    if os::arg_count() > 1 {
-        io::write_all(
-            STDERR_FILENO,
-            b"arguments are not read: the input is standard input, as after <\n",
-        );
+pub fn warn_of_arguments(rt: &(impl Env + Eprint)) {
+    let mut name = [0u8; 1];
+    match rt.arg(1, &mut name) {
+        Err(FillError::NotPresent) => {}
+        _ => {
+            let _ = rt.eprintln("arguments are not read: the input is standard input, as after <");
+        }
     }
 }

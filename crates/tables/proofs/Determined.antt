@@ -1,6 +1,11 @@
 -- For each public function of the crate: it asks nothing of its caller; two answers that its contract allows for one input are equal, and so
 -- is what it leaves in the memory that it was lent to write.
-use Rattle.std.proofs.Common.{sym, refl, ◌∙◌}
+use mathlib.Core.List.{Mem, not-mem-nil}
+use denote.RattleType.{RattleType}
+use denote.Param.Laws.{Laws}
+use mir.Syntax.{Dict}
+use Rattle.std.proofs.Common.{◌≡◌, ℕ, List, [], subst, sym, refl, ◌∙◌}
+use Rattle.std.specs.declared.io.Print.{Ghosts}
 use Rattle.answers.specs.Promises.{AsksNothing, AnswerDetermined, SeenDetermined, Determined}
 use Rattle.tables.proofs.lesser.Reads as lesser
 use Rattle.tables.proofs.lesser.Kinds as lesser_kinds
@@ -249,23 +254,29 @@ with_answer_asks_nothing κs a = tt
 with_answer_determined : AnswerDetermined with_answer_kinds.ps with_answer_kinds.r with_answer.Post
 with_answer_determined κs a z z' e e' p q = p ∙ sym q
 
-write_asks_nothing : AsksNothing write_kinds.ps write.Pre
-write_asks_nothing κs a = tt
+-- what borrows nothing outlives every loan of it
+outlives : {l k : List ℕ} → l ≡ [] → (x : ℕ) → Mem x l → Mem x k
+outlives free x m = absurd (not-mem-nil (subst (Mem x) free m))
 
-named_asks_nothing : AsksNothing named_kinds.ps named.Pre
-named_asks_nothing κs a = tt
+-- whatever is written to, where that borrows nothing itself
+module _ (T : RattleType) (laws : Laws T) (g : Ghosts T.Denot) (d : Dict) (free : T.lives ≡ []) where
+  write_asks_nothing : AsksNothing (write_kinds.ps T laws) (write.Pre T laws g d)
+  write_asks_nothing κs a = outlives free
 
-answer_asks_nothing : AsksNothing answer_kinds.ps answer.Pre
-answer_asks_nothing κs a = tt
+  named_asks_nothing : AsksNothing (named_kinds.ps T laws) (named.Pre T laws g d)
+  named_asks_nothing κs a = outlives free
 
-answer_and_sum_asks_nothing : AsksNothing answer_and_sum_kinds.ps answer_and_sum.Pre
-answer_and_sum_asks_nothing κs a = tt
+  answer_asks_nothing : AsksNothing (answer_kinds.ps T laws) (answer.Pre T laws g d)
+  answer_asks_nothing κs a = outlives free
 
-list_asks_nothing : AsksNothing list_call_kinds.ps list_call.Pre
-list_asks_nothing κs a = tt
+  answer_and_sum_asks_nothing : AsksNothing (answer_and_sum_kinds.ps T laws) (answer_and_sum.Pre T laws g d)
+  answer_and_sum_asks_nothing κs a = outlives free
 
-hex_asks_nothing : AsksNothing hex_kinds.ps hex.Pre
-hex_asks_nothing κs a = tt
+  list_asks_nothing : AsksNothing (list_call_kinds.ps T laws) (list_call.Pre T laws g d)
+  list_asks_nothing κs a = outlives free
 
-end_asks_nothing : AsksNothing end_call_kinds.ps end_call.Pre
-end_asks_nothing κs a = tt
+  hex_asks_nothing : AsksNothing (hex_kinds.ps T laws) (hex.Pre T laws g d)
+  hex_asks_nothing κs a = outlives free
+
+  end_asks_nothing : AsksNothing (end_call_kinds.ps T laws) (end_call.Pre T laws g d)
+  end_asks_nothing κs a = outlives free

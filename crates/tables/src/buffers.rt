@@ -5,25 +5,28 @@ ghost use Rattle.tables.specs.Tables.{full, same_front};
 use crate::lesser;
 
 // More bytes than a table has.
+#[tactic(auto, unfolding(crate::specs::Tables::full))]
 pub fn table_room() -> [u8; 262144]
     ensures value { result ≡ full 262144 0 }
-    ensures value_2 { 262144 ≡ length result }
+    ensures len { 262144 ≡ length result }
 {
     [0; 262144]
 }
 
 // More bytes than any call or program writes, each a mark.
+#[tactic(auto, unfolding(crate::specs::Tables::full))]
 pub fn marked_bytes() -> [u8; 45064]
     ensures value { result ≡ full 45064 165 }
-    ensures value_2 { 45064 ≡ length result }
+    ensures len { 45064 ≡ length result }
 {
     [165; 45064]
 }
 
 // More values than the longest list has, each a mark.
+#[tactic(auto, unfolding(crate::specs::Tables::full))]
 pub fn marked_values() -> [u32; 4104]
     ensures value { result ≡ full 4104 2863311530 }
-    ensures value_2 { 4104 ≡ length result }
+    ensures len { 4104 ≡ length result }
 {
     [2863311530; 4104]
 }
@@ -45,6 +48,7 @@ pub fn first_values(values: &[u32], count: usize) -> &[u32]
 }
 
 // How many bytes at the front of both are the same.
+#[tactic(auto, using(crate::proofs::Going::same_not, crate::proofs::Going::same_more, crate::proofs::Going::same_end))]
 pub fn same_bytes(bytes: &[u8], others: &[u8]) -> usize
     ensures { result ≡ same_front bytes.now others.now }
 {
@@ -60,6 +64,7 @@ pub fn same_bytes(bytes: &[u8], others: &[u8]) -> usize
 }
 
 // How many values at the front of both are the same.
+#[tactic(auto, using(crate::proofs::Going::same_not, crate::proofs::Going::same_more, crate::proofs::Going::same_end))]
 pub fn same_values(values: &[u32], others: &[u32]) -> usize
     ensures { result ≡ same_front values.now others.now }
 {

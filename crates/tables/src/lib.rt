@@ -28,6 +28,7 @@ fn added(sum: u32, value: u32) -> u32
 }
 
 // A checksum with some bytes more in it.
+#[tactic(auto, using(crate::proofs::Going::sum_more, crate::proofs::Going::sum_end))]
 pub fn bytes_sum_from(start: u32, bytes: &[u8]) -> u32
     ensures { result ≡ sum_from start bytes.now }
 {
@@ -48,6 +49,7 @@ pub fn bytes_sum(bytes: &[u8]) -> u32
 }
 
 // The checksum of some values.
+#[tactic(auto, using(crate::proofs::Going::sum_more, crate::proofs::Going::sum_end))]
 pub fn values_sum(values: &[u32]) -> u32
     ensures { result ≡ checksum values.now }
 {
@@ -96,6 +98,7 @@ pub fn decode(hex: &[u8], bytes: &mut [u8]) -> usize
 }
 
 // Where a letter stands first, and the end of the text where it does not.
+#[tactic(auto, using(crate::proofs::Going::place_here, crate::proofs::Going::place_more, crate::proofs::Going::place_end))]
 pub fn place_of(letter: u8, text: &[u8]) -> usize
     ensures value { result ≡ place_of letter text.now }
     ensures upper_bound { (result ≤ length text.now) × (result ≡ length (take result text.now)) }

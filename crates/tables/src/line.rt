@@ -5,13 +5,12 @@ ghost use Rattle.tables.specs.Numbers.{no_numbers, with_number};
 
 use crate::{lesser, place_of, values_sum};
 use answers::Answer;
-use lanes::wide;
-use libc::STDOUT_FILENO;
+use std::io;
 
 // A word, which comes with the blank before it and the `=` behind its name, and a number.
-pub fn named(word: &[u8], value: u64) {
-    io::write_all(STDOUT_FILENO, word);
-    io::print_decimal(STDOUT_FILENO, value);
+pub fn named(rt: &impl Print, word: &[u8], value: u64) -> io::Result<()> {
+    rt.write_all(word)?;
+    rt.print(value)
 }
 
 // Up to twelve numbers that are to be written, and how many there are.
@@ -32,6 +31,7 @@ pub fn no_numbers() -> Numbers
 
 impl Numbers {
     // With one number more.
+    #[tactic(auto, unfolding(crate::specs::Numbers::with_number))]
     pub fn with(self, number: u64) -> Numbers
         ensures { result ≡ with_number self number }
     {
@@ -61,61 +61,65 @@ impl Numbers {
     }
 
     // A text in which a `#` stands for each number in turn.
-    pub fn write(self, text: &[u8]) {
+    pub fn write(self, rt: &impl Print, text: &[u8]) -> io::Result<()> {
         let items = self.items;
         let mut rest = text;
         let mut k: usize = 0;
         while 0 < rest.len() {
             let end = place_of(b'#', rest);
-            io::write_all(STDOUT_FILENO, &rest[..end]);
+            rt.write_all(&rest[..end])?;
             if end == rest.len() {
-                return;
+                return Ok(());
             }
-            io::print_decimal(STDOUT_FILENO, items[k % 12]);
+            rt.print(items[k % 12])?;
             rest = &rest[end + 1..];
             k += 1;
         }
+        Ok(())
     }
 }
 
 // A word and what a call answers, the number of the refusal and the length.
-pub fn answer(word: &[u8], value: Answer) {
+pub fn answer(rt: &impl Print, word: &[u8], value: Answer) -> io::Result<()> {
     let refusal = value.refusal;
-    named(word, refusal.number() as u64);
-    named(b",", value.length as u64);
+    named(rt, word, refusal.number() as u64)?;
+    named(rt, b",", value.length as u64)
 }
 
 // And the checksum of its output afterwards.
-pub fn answer_and_sum(word: &[u8], value: Answer, sum: u32) {
-    answer(word, value);
-    named(b",", sum as u64);
+pub fn answer_and_sum(rt: &impl Print, word: &[u8], value: Answer, sum: u32) -> io::Result<()> {
+    answer(rt, word, value)?;
+    named(rt, b",", sum as u64)
 }
 
-fn item(place: usize, value: u32) {
+fn item(rt: &impl Print, place: usize, value: u32) -> io::Result<()> {
     if place == 0 {
-        named(b":", value as u64);
+        named(rt, b":", value as u64)
     } else {
-        named(b",", value as u64);
+        named(rt, b",", value as u64)
     }
 }
 
 // A word and the checksum of some values, and the first of them, no more than `shown`.
-pub fn list(word: &[u8], values: &[u32], shown: usize) {
-    named(word, values_sum(values) as u64);
+pub fn list(rt: &impl Print, word: &[u8], values: &[u32], shown: usize) -> io::Result<()> {
+    named(rt, word, values_sum(values) as u64)?;
     for i in 0..lesser(shown, values.len()) {
-        item(i, values[i]);
+        item(rt, i, values[i])?;
     }
+    Ok(())
 }
 
 // A word and some bytes in hex.
-pub fn hex(word: &[u8], bytes: &[u8]) {
-    io::write_all(STDOUT_FILENO, word);
+pub fn hex(rt: &impl Print, word: &[u8], bytes: &[u8]) -> io::Result<()> {
+    rt.write_all(word)?;
     for i in 0..bytes.len() {
-        io::print_hex(STDOUT_FILENO, wide(bytes[i]) as u64, 2);
+        let byte = bytes[i];
+        print!(rt; "{byte:02x}")?;
     }
+    Ok(())
 }
 
 // The end of a line.
-pub fn end() {
-    io::write_all(STDOUT_FILENO, b"\n");
+pub fn end(rt: &impl Print) -> io::Result<()> {
+    rt.write_all(b"\n")
 }

@@ -16,6 +16,7 @@ pub fn letter_at(text: &[u8], place: usize) -> u8
 }
 
 // What stands before the first place of a letter, and all where it has none.
+#[tactic(auto, unfolding(crate::specs::Words::before_of))]
 pub fn before(letter: u8, text: &[u8]) -> &[u8]
     ensures { result.now ≡ before_of letter text.now }
 {
@@ -24,6 +25,7 @@ pub fn before(letter: u8, text: &[u8]) -> &[u8]
 }
 
 // What stands behind it, and nothing where it has none.
+#[tactic(auto, unfolding(crate::specs::Words::behind_of))]
 pub fn behind(letter: u8, text: &[u8]) -> &[u8]
     ensures result_value { result.now ≡ behind_of letter text.now }
     ensures result_in_bounds { length result.now ≤ length text.now - 1 }
@@ -36,6 +38,7 @@ pub fn behind(letter: u8, text: &[u8]) -> &[u8]
 }
 
 // Whether there is a blank at a place and behind it a name that begins with a letter.
+#[tactic(auto, using(crate::proofs::Going::name_is))]
 fn is_name(letter: u8, text: &[u8], place: usize) -> bool
     requires { place < length text.now }
     ensures { result ≡ is_name letter (drop place text.now) }
@@ -47,6 +50,7 @@ fn is_name(letter: u8, text: &[u8], place: usize) -> bool
 }
 
 // The line from the name on that begins with a letter.
+#[tactic(auto, using(crate::proofs::Going::word_here, crate::proofs::Going::word_more, crate::proofs::Going::word_end, answers::proofs::Parts::part_is))]
 fn word(letter: u8, line: &[u8]) -> &[u8]
     ensures { result.now ≡ word_of letter line.now }
 {
@@ -61,6 +65,7 @@ fn word(letter: u8, line: &[u8]) -> &[u8]
 }
 
 // The value of the word whose name begins with a letter, and nothing where there is no such word.
+#[tactic(auto, unfolding(crate::specs::Words::value_of))]
 pub fn value(letter: u8, line: &[u8]) -> &[u8]
     ensures { result.now ≡ value_of letter line.now }
 {
@@ -68,6 +73,7 @@ pub fn value(letter: u8, line: &[u8]) -> &[u8]
 }
 
 // A number with one digit more, up to 18,446,744,073,709,551,615.
+#[tactic(auto, unfolding(crate::specs::Words::with_digit))]
 fn with_digit(number: u64, digit: u8) -> u64
     ensures { result ≡ with_digit number digit }
 {
@@ -75,6 +81,7 @@ fn with_digit(number: u64, digit: u8) -> u64
 }
 
 // The number that a text is the digits of, and the largest where there are none.
+#[tactic(auto, using(crate::proofs::Going::decimal_none, crate::proofs::Going::decimal_some, crate::proofs::Going::digits_more, crate::proofs::Going::digits_end))]
 pub fn decimal(text: &[u8]) -> u64
     ensures { result ≡ decimal_of text.now }
 {
@@ -91,6 +98,7 @@ pub fn decimal(text: &[u8]) -> u64
 }
 
 // The number of a word, or the first of its two numbers. The largest number stands for a word that is not there.
+#[tactic(auto, unfolding(crate::specs::Words::amount_of))]
 pub fn amount(letter: u8, line: &[u8]) -> u64
     ensures { result ≡ amount_of letter line.now }
 {
@@ -98,6 +106,7 @@ pub fn amount(letter: u8, line: &[u8]) -> u64
 }
 
 // The second of the two numbers of a word.
+#[tactic(auto, unfolding(crate::specs::Words::second_of))]
 pub fn second(letter: u8, line: &[u8]) -> u64
     ensures { result ≡ second_of letter line.now }
 {
@@ -112,6 +121,7 @@ pub fn narrow(number: u64) -> u32
 }
 
 // `none` or a number.
+#[tactic(auto, unfolding(crate::specs::Words::initial_in))]
 fn initial(first: &[u8]) -> Initial
     ensures { result ≡ initial_in first.now }
 {
@@ -123,6 +133,7 @@ fn initial(first: &[u8]) -> Initial
 }
 
 // The words `mode=plain`, `mode=sorted` or `mode=strict`, and `first=7` or `first=none`.
+#[tactic(auto, unfolding(crate::specs::Words::mode_in, crate::specs::Words::amount_of))]
 pub fn mode(line: &[u8]) -> Mode
     ensures { result ≡ mode_in line.now }
 {
@@ -135,6 +146,7 @@ pub fn mode(line: &[u8]) -> Mode
 }
 
 // The next of the values that a text lists: the number up to the next `,`, and where the text has ended, a step more than the value before.
+#[tactic(auto, using(crate::proofs::Going::listed_none, crate::proofs::Going::listed_some))]
 fn next_listed(text: &[u8], step: u32, previous: u32) -> u32
     ensures { result ≡ next_listed text.now step previous }
 {
@@ -163,7 +175,7 @@ pub fn put_values(text: &[u8], step: u32, values: &mut [u32])
 // The values of the words `given` and `step`: those that are given, and then values that go on by the step.
 pub fn given_values(line: &[u8]) -> [u32; 4104]
     ensures value { result ≡ table (listed (value_of 103 line.now) (amount_of 115 line.now % 4294967296)) 4104 }
-    ensures value_2 { 4104 ≡ length result }
+    ensures len { 4104 ≡ length result }
 {
     let mut values = [0u32; 4104];
     put_values(value(b'g', line), narrow(amount(b's', line)), &mut values);

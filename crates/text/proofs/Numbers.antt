@@ -66,3 +66,6 @@ module _ {bs : List ℕ} {value i : ℕ} (r : Reading bs value i) where
 
   pub value_small : value < 10000000000
   value_small = lt_of_lt_of_le r.small (pow-le-pow_right {n = 10} (omega arith) {i = i} {j = 10} r.few)
+
+-- wherever the reading stops, the number is read
+pub ruleset reading_stops = (reading_past, reading_low, reading_high, reading_ten)

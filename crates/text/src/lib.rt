@@ -112,6 +112,7 @@ pub fn begins(text: &[u8], bytes: &[u8]) -> bool
 }
 
 // The number that the digits stand for that the bytes begin with, ten of them at most.
+#[tactic(auto, using(crate::proofs::Numbers::reading_stops))]
 fn ten_digits(bytes: &[u8]) -> usize
     ensures { result ≡ value_from 0 (leading 10 bytes.now) }
 {

@@ -1,5 +1,5 @@
 -- The loop's invariant: `all` is the first l numbers or-ed together.
-use Rattle.std.proofs.Common.{◌≡◌, ◌≤◌}
+use Rattle.std.proofs.Common.{◌≡◌}
 use Rattle.layout.specs.Layout.{at}
 use Rattle.layout.specs.Width.{or_all}
 use Rattle.lanes.proofs.scalar.or_collapse_to_u32.Given as goal

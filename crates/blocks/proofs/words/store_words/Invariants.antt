@@ -1,0 +1,6 @@
+-- The loop's invariant: the words of the first l lanes are stored.
+use Rattle.blocks.specs.kernel.Places.{WordsStored}
+use Rattle.blocks.proofs.words.store_words.Given as goal
+
+abbrev pub invariant-loop-l : goal.invariant-loop-l
+invariant-loop-l l = WordsStored 0 l.l l.row l.fn.out l.out

@@ -1,6 +1,6 @@
 -- Each test is the definition's, in its order, on the entries that the block is unpacked to.
 use Rattle.std.proofs.Common.{◌≡◌, Bool, true, List, ℕ, sym, ◌∙◌, ap, arith}
-use borrow.Author.Tests.{not-true, not-false}
+use Rattle.std.proofs.lemmas.Bool.{not-true, not-false}
 use Rattle.std.proofs.Math.Seq.{length-take-le}
 use Rattle.answers.specs.declared.Refusal.{Refusal}
 use Rattle.answers.specs.Refusals.{accepted}

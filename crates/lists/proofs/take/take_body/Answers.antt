@@ -20,7 +20,7 @@ overflow_add-place c =
     omega (
       arith,
       block_within c.loop-left.invariant (lanes_of _ c.requires.0).0 c.loop-left-test.true c.take_block-step.ensures
-      (sym c.is_accepted.ensures ∙ c.if-not-is_accepted.false),
+          (sym c.is_accepted.ensures ∙ c.if-not-is_accepted.false),
     )
 
 pub loop-left-smaller : goal.loop-left-smaller

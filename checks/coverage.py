@@ -17,7 +17,7 @@ PAGE = TOP / "docs" / "COVERAGE.md"
 
 def sources():
     """Every line that may name something: code, definitions, proofs and scripts."""
-    for pattern in ("crates/**/*.antt", "crates/**/*.rt", "checks/*.py", "docs/PORT.md"):
+    for pattern in ("crates/**/*.antt", "crates/**/*.rt", "checks/*.py", "docs/PORT-OTHER.md"):
         for path in sorted(TOP.glob(pattern)):
             yield path.read_text()
 

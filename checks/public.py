@@ -4,7 +4,7 @@
     python3 checks/public.py
 
 A library is a crate with src/lib.rt. For a function f there are two lines in proofs/Determined.antt of its crate, each over the contract
-that the prover reads off the source: `f-asks-nothing : AsksNothing ..`, what f requires holds of all arguments, and `f-determined : ..`, two
+that the prover reads off the source: `f_asks_nothing : AsksNothing ..`, what f requires holds of all arguments, and `f_determined : ..`, two
 answers that the contract of f allows for one input are equal, and so is what f leaves in the memory that it was lent. Which of the claims the
 second has to be, and of what, goes by what the function is lent and answers (`claim`). Functions that cannot have it, for want of anything that a
 contract could say, are named below, and docs/PROMISES.md says why. The last line is 'N passed, 0 failed'.
@@ -15,12 +15,19 @@ import sys
 
 TOP = pathlib.Path(__file__).resolve().parent.parent
 # docs/PROMISES.md, "What no contract says": what is read, and what is written to a stream
-NOT_DETERMINED = {("streams", name) for name in ("read_input", "write_output", "warn_of_arguments")}
+NOT_DETERMINED = {("streams", name) for name in ("read_full", "read_input", "write_output", "warn_of_arguments")}
 NOT_DETERMINED |= {("tables", f"line::{name}") for name in ("named", "write", "answer", "answer_and_sum", "list", "hex", "end")}
-PUBLIC = re.compile(r'^ *pub (?:extern "C" )?fn (\w+)\(', re.M)
-CONTRACT = re.compile(r"^use Rattle·(\w+)·proofs\.proofs\.((?:\w+\.)*\w+)\.(Reads|Kinds) as (\S+)$", re.M)
-ASKS_NOTHING = re.compile(r"^(\S+)-asks-nothing : (AsksNothing) (\S+)-kinds\.ps \3\.Pre()$", re.M)
-DETERMINED = re.compile(r"^(\S+)-determined : (\w*Determined) (\S+)-kinds\.ps \3-kinds\.r \3\.Post(.*)$", re.M)
+PUBLIC = re.compile(r'^ *pub (?:(?:unsafe|const) )*(?:extern "C" )?fn (\w+)(?:<.*?>)?\(', re.M)
+CONTRACT = re.compile(r"^use Rattle\.(\w+)\.proofs\.((?:\w+\.)*\w+)\.(Reads|Kinds) as (\w+)$", re.M)
+ASKS_NOTHING = re.compile(r"^(\w+)_asks_nothing : (AsksNothing) (\w+)_kinds\.ps \3\.Pre()$", re.M)
+# The same of a function that takes a handle, a reader or a writer of any type, where that borrows nothing itself, and with no other premise:
+# written out, or in a module of such functions.
+ANY_TYPE = r"\(T : RattleType\) \(laws : Laws T\)(?: \(\w+ : \w*Ghosts T\.Denot\) \(\w+ : Dict\))+"
+OF_ANY = r"(\w+)_asks_nothing : %s(AsksNothing) \((\w+)_kinds\.ps T laws\) \(\3\.Pre T laws[ \w]*\)()$"
+ASKS_NOTHING_OF_ANY = re.compile("^" + OF_ANY % (ANY_TYPE + r" → T\.lives ≡ \[\]\s+→ "), re.M)
+ASKS_NOTHING_IN_MODULE = re.compile("^  " + OF_ANY % "", re.M)
+MODULE = re.compile(r"^module _ " + ANY_TYPE + r" \(free : T\.lives ≡ \[\]\) where\n((?:  .*\n|\n)+)", re.M)
+DETERMINED = re.compile(r"^(\w+)_determined : (\w*Determined) (\w+)_kinds\.ps \3_kinds\.r \3\.Post(.*)$", re.M)
 
 
 def functions(crate):
@@ -39,9 +46,9 @@ def claim(head):
     if len(lent) > 1:
         return "a claim over two lent buffers"
     if lent:
-        return "Determined (λ κs e. e" + " .1" * lent[0] + " .0 .now)"
+        return "Determined (λ κs e. e" + ".1" * lent[0] + ".0.now)"
     if "-> &" in answer:
-        return "SeenDetermined (λ κs z. z .now)"
+        return "SeenDetermined (λ κs z. z.now)"
     if "-> [u32; 8]" in answer:
         return "RowDetermined (λ κs z. z)"
     return "AnswerDetermined" if "->" in answer else None
@@ -55,18 +62,19 @@ def proved(crate):
     text = table.read_text()
     contracts = {(alias, part): path for package, path, part, alias in CONTRACT.findall(text) if package == crate.name}
 
-    def lines(shape):
+    def lines(*shapes):
         """The functions that have such a line, over their own contract. A line has the function's name, or its module's and its own."""
         found = {}
-        for line, said, alias, of in shape.findall(text):
+        for line, said, alias, of in (of_shape for shape, where in shapes for of_shape in shape.findall(where)):
             path = contracts.get((alias, "Reads"), "")
             names = {path.split(".")[-1], "_".join(path.split(".")[-2:])}
-            if path == contracts.get((f"{alias}-kinds", "Kinds")) and line.replace("-", "_") in names:
-                of_name = names if line.replace("-", "_") != path.split(".")[-1] else {path.split(".")[-1]}
+            if path == contracts.get((f"{alias}_kinds", "Kinds")) and line in names:
+                of_name = names if line != path.split(".")[-1] else {path.split(".")[-1]}
                 found |= {name: said + of for name in of_name}
         return found
 
-    return lines(ASKS_NOTHING), lines(DETERMINED)
+    modules_of_any = "".join(MODULE.findall(text))
+    return lines((ASKS_NOTHING, text), (ASKS_NOTHING_OF_ANY, text), (ASKS_NOTHING_IN_MODULE, modules_of_any)), lines((DETERMINED, text))
 
 
 def main():

@@ -1,7 +1,7 @@
 #!/usr/bin/env python3
 """Tries the two programs on what only a machine can do to them: input in pieces, reads and writes that fail, a full disk, arguments.
 
-    rt check list_to_text text_to_list
+    tools/build list_to_text text_to_list
     python3 checks/streams.py
 
 What the programs compute is proved, and run by programs_check; which bytes a read hands over and a write takes is not. A small C library

@@ -6,7 +6,7 @@
  * Exit status: 0 the pages were printed, 1 refused, 2 they could not be printed whole. A file that cannot be read is refused too, and
  * standard error says why; so is one that is longer than any list file. Build it from the top of the repository:
  *
- *     rt staticlib sisalshed && cc -O2 -Wall -Iinclude host/c/page_list.c target/staticlib/libsisalshed.a -o target/page_list
+ *     tools/build library && cc -O2 -Wall -Iinclude host/c/page_list.c target/staticlib/libsisalshed.a -o target/page_list
  */
 #include <inttypes.h>
 #include <stdio.h>

@@ -1,4 +1,4 @@
-//! Links the proved library: from the folder that SISALSHED_LIBRARY names, else from where `rt staticlib sisalshed` writes it.
+//! Links the proved library: from the folder that SISALSHED_LIBRARY names, else from where `tools/build library` puts it.
 use std::env;
 use std::path::PathBuf;
 
@@ -10,7 +10,7 @@ fn main() {
     };
     let library = folder.join("libsisalshed.a");
     println!("cargo:rerun-if-changed={}", library.display());
-    assert!(library.is_file(), "{} is not there: `rt staticlib sisalshed` makes it", library.display());
+    assert!(library.is_file(), "{} is not there: `tools/build library` makes it", library.display());
     println!("cargo:rustc-link-search=native={}", folder.display());
     println!("cargo:rustc-link-lib=static=sisalshed");
 }

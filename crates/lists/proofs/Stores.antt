@@ -121,7 +121,8 @@ module _ {L : ℕ} {es own : List ℕ} (o : Own L es own) where
         came ∙ pack_is L o.lanes (take (block_size L) own) rest n block_length width_narrow wide
         (fits_of (at (take (block_size L) own)) (block_size L) n (λ k h. rw (← block_at k h, width_of_lem) ((width_least (filled es) (block_size L) fit).fit k h)))
         ∙ ap (λ (t : List ℕ). over t rest) (packed_ext L n (at (take (block_size L) own)) (filled es) (λ k h. sym (block_at k h))) in
-        (front_part first 1 refl (packed L n (filled es)) ys (rw (length_packed, width_of_lem) (omega arith)) packs).here ∙ rw (b, width_of_lem)
+        let e : (n % 256 ∷ []) ++ packed L n (filled es) ≡ block L es = rw (b, width_of_lem) in
+        (front_part first 1 refl (packed L n (filled es)) ys (rw (length_packed, width_of_lem) (omega arith)) packs).here ∙ ap (λ (t : List ℕ). over t out) e
 
 -- a block has its width byte at least
 pub some_room : (L : ℕ) (es : List ℕ) {room : ℕ} → length (block L es) ≤ room → 1 ≤ room

@@ -17,6 +17,7 @@ use modes::Mode;
 use order::walk;
 
 // 5, 2, 5: whether the bytes begin with a whole block.
+#[tactic(auto, unfolding(bodies::specs::Reading::frame_refusal))]
 pub(crate) fn frame_refusal(lanes: usize, bytes: &[u8]) -> Refusal
     requires { is_lanes lanes ≡ true }
     ensures { result ≡ frame_refusal lanes bytes.now }
@@ -60,6 +61,7 @@ fn zeros(entries: &[u32]) -> bool
 }
 
 // 10, 9: whether a block of entries, `count` of them the list's, is filled with 0 and stored at its least width.
+#[tactic(auto, unfolding(crate::specs::kernel::Steps::entries_refusal))]
 fn entries_refusal(lanes: usize, count: usize, width: u32, entries: &[u32]) -> Refusal
     requires { (is_lanes lanes ≡ true) × (count ≤ block_size lanes) × (length entries.now ≡ block_size lanes) }
     ensures { result ≡ entries_refusal lanes count width (at entries.now) }

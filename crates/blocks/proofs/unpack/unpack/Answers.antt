@@ -28,7 +28,7 @@ pub store_row-requires : goal.store_row-requires
 store_row-requires c =
     let a = c.args in
     let o = c.loop-row in (
-      c.requires.1,
+      omega arith,
       omega (arith, room o.row a.lanes {size = length o.out} c.loop-row-test.true (omega (arith, c.requires.4, o.invariant.3.size)), part_length (o.row * a.lanes) o.out),
     )
 

@@ -11,24 +11,16 @@ use Rattle.blocks.proofs.unpack.unpack_row.Goals as goal
 
 pub returns-then-width-left-clause-row_of : goal.returns-then-width-left-clause-row_of
 returns-then-width-left-clause-row_of c =
-    reach_row _ _ _ _ c.requires.holds_bits c.requires.lanes_bound.0 c.if-width-left.true c.mask.ensures c.set1-ones.ensures c.op_and-entries.ensures
+    reach_row _ _ _ _ c.requires.holds_bits c.requires.lanes_bound.0 (omega arith) c.mask.ensures c.set1-ones.ensures c.op_and-entries.ensures
 
 pub returns-then-width-left-clause-holds_bits_2 : goal.returns-then-width-left-clause-holds_bits_2
 returns-then-width-left-clause-holds_bits_2 c =
-    reach_held _ _ _ _ c.requires.holds_bits c.requires.lanes_bound.0 c.if-width-left.true c.right_shift_32-rest.ensures
+    reach_held _ _ _ _ c.requires.holds_bits c.requires.lanes_bound.0 (omega arith) c.right_shift_32-rest.ensures
 
 -- a word that is read lies in the bytes
 room : (lanes width row : ℕ) {size : ℕ} → row < 32 → bits_left width row < width → 4 * lanes * width ≤ size
     → 4 * ((row * width + 31) / 32 * lanes + lanes) ≤ size
 room lanes width row lt short fits = omega (arith, word_room lanes width ((row * width + 31) / 32) (more_word width row lt short))
-
-pub slice_bounds-load_words-count : goal.slice_bounds-load_words-count
-slice_bounds-load_words-count c =
-    omega (arith, room c.args.lanes c.args.width c.args.row c.requires.lanes_bound.2 c.if-width-left.false c.requires.lanes_bound.3)
-
-pub slice_bounds-load_words-start : goal.slice_bounds-load_words-start
-slice_bounds-load_words-start c =
-    omega (arith, room c.args.lanes c.args.width c.args.row c.requires.lanes_bound.2 c.if-width-left.false c.requires.lanes_bound.3)
 
 pub load_words-in_register-requires : goal.load_words-in_register-requires
 load_words-in_register-requires c =
@@ -40,6 +32,14 @@ load_words-in_register-requires c =
         part_length (4 * ((a.row * a.width + 31) / 32 * a.lanes)) a.bytes.now,
       ),
     )
+
+pub slice_bounds-load_words-count : goal.slice_bounds-load_words-count
+slice_bounds-load_words-count c =
+    omega (arith, room c.args.lanes c.args.width c.args.row c.requires.lanes_bound.2 c.if-width-left.false c.requires.lanes_bound.3)
+
+pub slice_bounds-load_words-start : goal.slice_bounds-load_words-start
+slice_bounds-load_words-start c =
+    omega (arith, room c.args.lanes c.args.width c.args.row c.requires.lanes_bound.2 c.if-width-left.false c.requires.lanes_bound.3)
 
 -- what is loaded is the next word of each lane
 loaded : (lanes word : ℕ) (bytes x : List ℕ)

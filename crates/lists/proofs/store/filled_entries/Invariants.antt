@@ -1,0 +1,10 @@
+-- The loop's invariant: the entries of the first i values are there.
+use Rattle.std.proofs.Common.{length, ◌-◌, replicate}
+use Rattle.lists.proofs.Stores.{Filling}
+use Rattle.lists.proofs.store.filled_entries.Given as goal
+
+abbrev pub invariant-loop-i : goal.invariant-loop-i
+invariant-loop-i l = Filling l.fn.mode l.values (replicate 256 0) l.running l.i l.block
+
+abbrev pub decreases-loop-i : goal.decreases-loop-i
+decreases-loop-i l = length l.values - l.i

@@ -4,7 +4,8 @@
 #![tactic(auto)]
 
 use cases::{all_calls, payload, trip, width_zero};
-use libc::{STDIN_FILENO, STDOUT_FILENO};
+use std::io;
+use streams::read_full;
 use tables::buffers::table_room;
 use tables::line;
 use tables::words::{before, behind, letter_at};
@@ -15,33 +16,34 @@ mod cases;
 mod inputs;
 
 // The kinds: `calls`, `zero`, `trip`, and `payload`, `bytes` and `kept`.
-fn run_kind(kind: u8, case: &[u8]) {
+fn run_kind(rt: &impl Print, kind: u8, case: &[u8]) -> io::Result<()> {
     match kind {
-        b'c' => all_calls(case),
-        b'z' => width_zero(case),
-        b't' => trip(case),
-        _ => payload(kind, case),
+        b'c' => all_calls(rt, case),
+        b'z' => width_zero(rt, case),
+        b't' => trip(rt, case),
+        _ => payload(rt, kind, case),
     }
 }
 
-fn run_line(case: &[u8]) {
-    io::write_all(STDOUT_FILENO, before(b':', case));
-    run_kind(letter_at(behind(b':', case), 1), case);
-    line::end();
+fn run_line(rt: &impl Print, case: &[u8]) -> io::Result<()> {
+    rt.write_all(before(b':', case))?;
+    run_kind(rt, letter_at(behind(b':', case), 1), case)?;
+    line::end(rt)
 }
 
 // Every line of a text.
-fn run_all(text: &[u8]) {
+fn run_all(rt: &impl Print, text: &[u8]) -> io::Result<()> {
     let mut rest = text;
     while 0 < rest.len() {
-        run_line(before(b'\n', rest));
+        run_line(rt, before(b'\n', rest))?;
         let next = behind(b'\n', rest);
         rest = next;
     }
+    Ok(())
 }
 
-fn main() {
+fn main(rt: HostRuntime) -> io::Result<()> {
     let mut table = table_room();
-    let size = io::read_full(STDIN_FILENO, &mut table);
-    run_all(&table[..size]);
+    let size = read_full(&mut rt.stdin(), &mut table)?;
+    run_all(&rt, &table[..size])
 }

@@ -3,41 +3,43 @@
 #![tactic(auto)]
 
 use calls::{show_header, show_read, show_written};
-use libc::{STDIN_FILENO, STDOUT_FILENO};
+use std::io;
+use streams::read_full;
 use tables::buffers::{marked_bytes, table_room};
 use tables::words::{before, behind};
 use tables::{decode, line};
 
 mod calls;
 
-fn run_file(hex: &[u8]) {
+fn run_file(rt: &impl Print, hex: &[u8]) -> io::Result<()> {
     let mut bytes = marked_bytes();
     let size = decode(hex, &mut bytes);
     let file = &bytes[..size];
-    show_header(file);
-    show_read(file);
-    show_written(file);
+    show_header(rt, file)?;
+    show_read(rt, file)?;
+    show_written(rt, file)
 }
 
 // A line of the table: the name up to the first blank, and the file.
-fn run_line(line: &[u8]) {
-    io::write_all(STDOUT_FILENO, before(b' ', line));
-    run_file(behind(b' ', line));
-    line::end();
+fn run_line(rt: &impl Print, line: &[u8]) -> io::Result<()> {
+    rt.write_all(before(b' ', line))?;
+    run_file(rt, behind(b' ', line))?;
+    line::end(rt)
 }
 
 // Every line of a text.
-fn run_all(text: &[u8]) {
+fn run_all(rt: &impl Print, text: &[u8]) -> io::Result<()> {
     let mut rest = text;
     while 0 < rest.len() {
-        run_line(before(b'\n', rest));
+        run_line(rt, before(b'\n', rest))?;
         let next = behind(b'\n', rest);
         rest = next;
     }
+    Ok(())
 }
 
-fn main() {
+fn main(rt: HostRuntime) -> io::Result<()> {
     let mut table = table_room();
-    let size = io::read_full(STDIN_FILENO, &mut table);
-    run_all(&table[..size]);
+    let size = read_full(&mut rt.stdin(), &mut table)?;
+    run_all(&rt, &table[..size])
 }

@@ -4,6 +4,7 @@ ghost use Rattle.std.specs.Prelude.{◌≡◌, length};
 use crate::inputs::{count, lanes};
 use answers::Answer;
 use modes::Mode;
+use std::io;
 use tables::buffers::{first_values, marked_values};
 use tables::line::Numbers;
 use tables::words::{mode, value};
@@ -55,14 +56,28 @@ fn call(case: &[u8], lanes: usize, bytes: &[u8], output: &mut [u32]) -> Answer {
 }
 
 // And the checksum of the values that were read, and the first four of them.
-fn read_into(word: &[u8], case: &[u8], lanes: usize, bytes: &[u8], output: &mut [u32]) {
+fn read_into(
+    rt: &impl Print,
+    word: &[u8],
+    case: &[u8],
+    lanes: usize,
+    bytes: &[u8],
+    output: &mut [u32],
+) -> io::Result<()> {
     let read = call(case, lanes, bytes, output);
-    line::answer_and_sum(word, read, values_sum(output));
-    line::list(b":", first_values(output, read.length), 4);
+    line::answer_and_sum(rt, word, read, values_sum(output))?;
+    line::list(rt, b":", first_values(output, read.length), 4)
 }
 
-pub(crate) fn read(word: &[u8], case: &[u8], lanes: usize, bytes: &[u8], room: usize) {
+pub(crate) fn read(
+    rt: &impl Print,
+    word: &[u8],
+    case: &[u8],
+    lanes: usize,
+    bytes: &[u8],
+    room: usize,
+) -> io::Result<()> {
     let mut output = marked_values();
     let end = lesser(room, 4104);
-    read_into(word, case, lanes, bytes, &mut output[0..end]);
+    read_into(rt, word, case, lanes, bytes, &mut output[0..end])
 }

@@ -5,6 +5,7 @@ use crate::calls::{body_of, read, write};
 use crate::inputs::{count, lanes, list_of};
 use crate::stops::stop;
 use modes::Mode;
+use std::io;
 use tables::buffers::{first_bytes, first_values};
 use tables::line::no_numbers;
 use tables::words::{amount, mode, second};
@@ -16,34 +17,34 @@ fn one_less(count: usize) -> usize {
 }
 
 // The list written: with room to spare, with room for its body, and with room for one byte less.
-fn write_thrice(case: &[u8], values: &[u32], length: usize) {
+fn write_thrice(rt: &impl Print, case: &[u8], values: &[u32], length: usize) -> io::Result<()> {
     let spare = write(no_numbers(), case, values, 16520);
     let exact = write(spare, case, values, length);
     let all = write(exact, case, values, one_less(length));
-    all.write(b" write=#,#,#;#,#,#;#,#,#");
+    all.write(rt, b" write=#,#,#;#,#,#;#,#,#")
 }
 
 // The body read back: with room to spare, with room for the count, and with room for one value less.
-fn read_thrice(case: &[u8], body: &[u8]) {
+fn read_thrice(rt: &impl Print, case: &[u8], body: &[u8]) -> io::Result<()> {
     let semicolon: &[u8] = b";";
-    read(b" read=", case, lanes(case), body, 4104);
-    read(semicolon, case, lanes(case), body, count(case));
-    read(semicolon, case, lanes(case), body, one_less(count(case)));
+    read(rt, b" read=", case, lanes(case), body, 4104)?;
+    read(rt, semicolon, case, lanes(case), body, count(case))?;
+    read(rt, semicolon, case, lanes(case), body, one_less(count(case)))
 }
 
-fn list_shown(case: &[u8], values: &[u32]) {
+fn list_shown(rt: &impl Print, case: &[u8], values: &[u32]) -> io::Result<()> {
     let body = body_of(lanes(case), mode(case), values);
     let all = body.bytes;
     let bytes = first_bytes(&all, body.length);
-    line::list(b" list=", values, 4);
-    write_thrice(case, values, body.length);
-    line::hex(b" body=", first_bytes(bytes, 12));
-    read_thrice(case, bytes);
+    line::list(rt, b" list=", values, 4)?;
+    write_thrice(rt, case, values, body.length)?;
+    line::hex(rt, b" body=", first_bytes(bytes, 12))?;
+    read_thrice(rt, case, bytes)
 }
 
-pub(crate) fn list_case(case: &[u8]) {
+pub(crate) fn list_case(rt: &impl Print, case: &[u8]) -> io::Result<()> {
     let values = list_of(case, count(case));
-    list_shown(case, first_values(&values, count(case)));
+    list_shown(rt, case, first_values(&values, count(case)))
 }
 
 // packed=20:32: a body packed of 20 entries and then zeros, 32 in all, which are the values of a plain list; and marks behind it.
@@ -75,9 +76,9 @@ fn changed(case: &[u8]) -> [u8; 16520]
 }
 
 // The checksum of some bytes, and the first 12 of them.
-fn show_bytes(bytes: &[u8]) {
-    line::named(b" body=", bytes_sum(bytes) as u64);
-    line::hex(b":", first_bytes(bytes, 12));
+fn show_bytes(rt: &impl Print, bytes: &[u8]) -> io::Result<()> {
+    line::named(rt, b" body=", bytes_sum(bytes) as u64)?;
+    line::hex(rt, b":", first_bytes(bytes, 12))
 }
 
 // as=4: the lanes with which a body is read.
@@ -86,43 +87,47 @@ fn lanes_read(case: &[u8]) -> usize {
 }
 
 // room=31: it is read into so much room.
-fn read_bytes(case: &[u8], bytes: &[u8]) {
+fn read_bytes(rt: &impl Print, case: &[u8], bytes: &[u8]) -> io::Result<()> {
     read(
+        rt,
         b" read=",
         case,
         lanes_read(case),
         bytes,
         amount(b'r', case) as usize,
-    );
+    )
 }
 
-fn read_body(case: &[u8], body: &[u8]) {
-    show_bytes(body);
-    read_bytes(case, body);
+fn read_body(rt: &impl Print, case: &[u8], body: &[u8]) -> io::Result<()> {
+    show_bytes(rt, body)?;
+    read_bytes(rt, case, body)
 }
 
-fn check_body(case: &[u8], body: &[u8]) {
-    show_bytes(body);
-    stop(lists::check(lanes_read(case), mode(case), count(case), body));
+fn check_body(rt: &impl Print, case: &[u8], body: &[u8]) -> io::Result<()> {
+    show_bytes(rt, body)?;
+    stop(rt, lists::check(lanes_read(case), mode(case), count(case), body))
 }
 
 // start=7: the block that starts at that place is framed, checked and read by itself.
-fn part_of_body(case: &[u8], body: &[u8]) {
+fn part_of_body(rt: &impl Print, case: &[u8], body: &[u8]) -> io::Result<()> {
     let start = lesser(amount(b's', case) as usize, body.len());
     let bytes = &body[start..];
-    show_bytes(bytes);
-    line::answer(b" frame=", lists::frame(lanes_read(case), bytes));
-    stop(lists::check_block(lanes_read(case), mode(case), count(case), bytes));
-    read_bytes(case, bytes);
+    show_bytes(rt, bytes)?;
+    line::answer(rt, b" frame=", lists::frame(lanes_read(case), bytes))?;
+    stop(
+        rt,
+        lists::check_block(lanes_read(case), mode(case), count(case), bytes),
+    )?;
+    read_bytes(rt, case, bytes)
 }
 
 // end=12: the first 12 bytes of such a body are read, or checked, or a block of them.
-pub(crate) fn body_case(kind: u8, case: &[u8]) {
+pub(crate) fn body_case(rt: &impl Print, kind: u8, case: &[u8]) -> io::Result<()> {
     let bytes = changed(case);
     let body = first_bytes(&bytes, amount(b'e', case) as usize);
     match kind {
-        b'b' => read_body(case, body),
-        b's' => check_body(case, body),
-        _ => part_of_body(case, body),
+        b'b' => read_body(rt, case, body),
+        b's' => check_body(rt, case, body),
+        _ => part_of_body(rt, case, body),
     }
 }

@@ -4,6 +4,7 @@ ghost use Rattle.std.specs.Prelude.{◌≤◌};
 use crate::calls::body_of;
 use crate::inputs::{count, lanes, list_of};
 use modes::Mode;
+use std::io;
 use tables::buffers::{first_bytes, first_values, marked_values, same_bytes};
 use tables::words::mode;
 use tables::{lesser, line, values_sum};
@@ -90,12 +91,12 @@ fn all_changes(lanes: usize, mode: Mode, count: usize, bytes: [u8; 16520], end: 
 }
 
 // The body of a list with one byte changed: how many have the outcome 0, 1 and so on.
-pub(crate) fn change_case(case: &[u8]) {
+pub(crate) fn change_case(rt: &impl Print, case: &[u8]) -> io::Result<()> {
     let values = list_of(case, count(case));
     let body = body_of(lanes(case), mode(case), first_values(&values, count(case)));
     let end = lesser(body.length, 16520);
     let bytes = body.bytes;
     let tally = all_changes(lanes(case), mode(case), count(case), bytes, end);
     let outcomes = tally.outcomes;
-    line::list(b" outcomes=", &outcomes, 14);
+    line::list(rt, b" outcomes=", &outcomes, 14)
 }

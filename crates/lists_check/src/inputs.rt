@@ -37,7 +37,7 @@ fn noise(lanes: usize, k: usize, x: u32) -> u32 {
 
 // The rule of the values: `values=5:2` begins with 5 and goes on by 2 and wraps, `values=noise` is noise, and `values=rising` goes on by
 // more than 0.
-#[derive(Drop)]
+#[derive(Clone, Copy)]
 struct Rule {
     letter: u8,
     start: u32,

@@ -3,13 +3,15 @@ ghost use Rattle.std.specs.Prelude.{◌≡◌, ◌≤◌, length};
 
 use crate::lists::{number_at, numbers};
 use blocks::{compress, compressed_block_size, decompress, num_bits};
-use libc::STDIN_FILENO;
 use modes::{Initial, Mode};
+use std::io;
+use std::io::Read;
+use streams::read_full;
 use tables::buffers::{first_bytes, first_values, same_bytes, same_values};
 use tables::{bytes_sum_from, lesser};
 
 // What came of a record: which of the Rust's three answers are ours, and the checksum of the list so far.
-#[derive(Drop)]
+#[derive(Clone, Copy)]
 pub(crate) struct Seen {
     pub values: bool,
     pub payload: bool,
@@ -33,11 +35,11 @@ fn room() -> [u8; 1024]
 }
 
 // The next `count` bytes of the list, and zeros where it ends.
-fn next_bytes(count: usize) -> [u8; 1024] {
+fn next_bytes<R: Read>(list: &mut R, count: usize) -> io::Result<[u8; 1024]> {
     let mut bytes = room();
     let end = lesser(count, 1024);
-    io::read_full(STDIN_FILENO, &mut bytes[0..end]);
-    bytes
+    read_full(list, &mut bytes[0..end])?;
+    Ok(bytes)
 }
 
 // Unpacking the record's payload gives its values.
@@ -115,16 +117,22 @@ impl Seen {
 }
 
 // The next record.
-pub(crate) fn replay(lanes: usize, kind: u32, width: u32, sum: u32) -> Seen
+pub(crate) fn replay<R: Read>(
+    list: &mut R,
+    lanes: usize,
+    kind: u32,
+    width: u32,
+    sum: u32,
+) -> io::Result<Seen>
     requires { lanes ≤ 8 }
 {
-    let first = next_bytes(8);
+    let first = next_bytes(list, 8)?;
     let size = compressed_block_size(lanes, width);
-    let second = next_bytes(size.length);
-    let third = next_bytes(128 * lanes);
+    let second = next_bytes(list, size.length)?;
+    let third = next_bytes(list, 128 * lanes)?;
     let head = first_bytes(&first, 8);
     let payload = first_bytes(&second, size.length);
     let words = first_bytes(&third, 128 * lanes);
     let seen = judged(lanes, kind, width, head, payload, words);
-    seen.with_sum(sum, head, payload, words)
+    Ok(seen.with_sum(sum, head, payload, words))
 }

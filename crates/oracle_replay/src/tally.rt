@@ -1,6 +1,8 @@
 // What is written: a line for each lane count and kind of mode, and one at the end.
 use crate::record::Seen;
-use libc::{STDIN_FILENO, STDOUT_FILENO};
+use std::io;
+use std::io::Read;
+use streams::read_full;
 use tables::line::{named, no_numbers};
 
 // How many records were replayed, and how many of the Rust's answers are ours.
@@ -33,41 +35,33 @@ impl Tally {
     }
 }
 
-fn kind_name(kind: u32) {
+fn kind_name(rt: &impl Print, kind: u32) -> io::Result<()> {
     match kind {
-        0 => {
-            io::write_all(STDOUT_FILENO, b" mode=plain");
-        }
-        1 => {
-            io::write_all(STDOUT_FILENO, b" mode=sorted");
-        }
-        2 => {
-            io::write_all(STDOUT_FILENO, b" mode=strict first=none");
-        }
-        _ => {
-            io::write_all(STDOUT_FILENO, b" mode=strict first=number");
-        }
+        0 => rt.write_all(b" mode=plain"),
+        1 => rt.write_all(b" mode=sorted"),
+        2 => rt.write_all(b" mode=strict first=none"),
+        _ => rt.write_all(b" mode=strict first=number"),
     }
 }
 
 // The line of a lane count and a kind of mode.
-pub(crate) fn line(lanes: usize, kind: u32, tally: Tally) {
-    named(b"lanes=", lanes as u64);
-    kind_name(kind);
+pub(crate) fn line(rt: &impl Print, lanes: usize, kind: u32, tally: Tally) -> io::Result<()> {
+    named(rt, b"lanes=", lanes as u64)?;
+    kind_name(rt, kind)?;
     let none = no_numbers();
     let records = none.with_value(tally.records);
     let values = records.with_value(tally.values);
     let payloads = values.with_value(tally.payloads);
     let all = payloads.with_value(tally.leasts);
-    all.write(b" records=# unpacked=# packed=# least=#\n");
+    all.write(rt, b" records=# unpacked=# packed=# least=#\n")
 }
 
 // The checksum of the whole list, and how many bytes are left of it, up to 8.
-pub(crate) fn end_of_list(sum: u32) {
+pub(crate) fn end_of_list<R: Read>(rt: &impl Print, list: &mut R, sum: u32) -> io::Result<()> {
     let mut rest = [0u8; 8];
-    let left = io::read_full(STDIN_FILENO, &mut rest);
+    let left = read_full(list, &mut rest)?;
     let none = no_numbers();
     let summed = none.with_value(sum);
     let all = summed.with(left as u64);
-    all.write(b"sum=# left=#\n");
+    all.write(rt, b"sum=# left=#\n")
 }

@@ -6,8 +6,9 @@
 ghost use Rattle.std.specs.Prelude.{◌≡◌, length};
 
 use calls::run_program;
-use libc::{STDIN_FILENO, STDOUT_FILENO};
 use pieces::put_pieces;
+use std::io;
+use streams::read_full;
 use tables::buffers::{first_bytes, table_room};
 use tables::line;
 use tables::words::{before, behind, letter_at};
@@ -23,31 +24,32 @@ fn input_room() -> [u8; 65540]
 }
 
 // The letter of the program, and the pieces.
-fn run_case(text: &[u8]) {
+fn run_case(rt: &impl Print, text: &[u8]) -> io::Result<()> {
     let mut bytes = input_room();
     let size = put_pieces(text, &mut bytes);
-    run_program(letter_at(text, 0), first_bytes(&bytes, size));
+    run_program(rt, letter_at(text, 0), first_bytes(&bytes, size))
 }
 
 // A line of the table: the name up to the first blank, and the case.
-fn run_line(line: &[u8]) {
-    io::write_all(STDOUT_FILENO, before(b' ', line));
-    run_case(behind(b' ', line));
-    line::end();
+fn run_line(rt: &impl Print, line: &[u8]) -> io::Result<()> {
+    rt.write_all(before(b' ', line))?;
+    run_case(rt, behind(b' ', line))?;
+    line::end(rt)
 }
 
 // Every line of a text.
-fn run_all(text: &[u8]) {
+fn run_all(rt: &impl Print, text: &[u8]) -> io::Result<()> {
     let mut rest = text;
     while 0 < rest.len() {
-        run_line(before(b'\n', rest));
+        run_line(rt, before(b'\n', rest))?;
         let next = behind(b'\n', rest);
         rest = next;
     }
+    Ok(())
 }
 
-fn main() {
+fn main(rt: HostRuntime) -> io::Result<()> {
     let mut table = table_room();
-    let size = io::read_full(STDIN_FILENO, &mut table);
-    run_all(&table[..size]);
+    let size = read_full(&mut rt.stdin(), &mut table)?;
+    run_all(&rt, &table[..size])
 }

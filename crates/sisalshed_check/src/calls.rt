@@ -5,6 +5,7 @@ use sisalshed::{
     sisalshed_decompress, sisalshed_header, sisalshed_measure_list, sisalshed_num_bits,
     sisalshed_read_file, sisalshed_read_list, sisalshed_write_file, sisalshed_write_list,
 };
+use std::io;
 use tables::line::{Numbers, no_numbers};
 use tables::words::{amount, narrow};
 use tables::{bytes_sum, values_sum};
@@ -40,9 +41,9 @@ fn asked(call: u8, case: &[u8], values: &[u32]) -> CAnswer {
 }
 
 // The calls of blocks and lists that are lent nothing to write.
-pub(crate) fn ask(call: u8, case: &[u8], values: &[u32]) {
+pub(crate) fn ask(rt: &impl Print, call: u8, case: &[u8], values: &[u32]) -> io::Result<()> {
     let answer = numbers_of(asked(call, case, values));
-    answer.write(b" answer=#,#");
+    answer.write(rt, b" answer=#,#")
 }
 
 fn written(call: u8, case: &[u8], values: &[u32], output: &mut [u8]) -> CAnswer {
@@ -61,10 +62,16 @@ fn written(call: u8, case: &[u8], values: &[u32], output: &mut [u8]) -> CAnswer 
 }
 
 // The calls that write bytes.
-pub(crate) fn show_written(call: u8, case: &[u8], values: &[u32], output: &mut [u8]) {
+pub(crate) fn show_written(
+    rt: &impl Print,
+    call: u8,
+    case: &[u8],
+    values: &[u32],
+    output: &mut [u8],
+) -> io::Result<()> {
     let answer = numbers_of(written(call, case, values, output));
     let all = answer.with_value(bytes_sum(output));
-    all.write(b" answer=#,#,#");
+    all.write(rt, b" answer=#,#,#")
 }
 
 fn read(call: u8, case: &[u8], bytes: &[u8], output: &mut [u32]) -> CAnswer {
@@ -90,13 +97,19 @@ fn read(call: u8, case: &[u8], bytes: &[u8], output: &mut [u32]) -> CAnswer {
 }
 
 // The calls that write values.
-pub(crate) fn show_read(call: u8, case: &[u8], bytes: &[u8], output: &mut [u32]) {
+pub(crate) fn show_read(
+    rt: &impl Print,
+    call: u8,
+    case: &[u8],
+    bytes: &[u8],
+    output: &mut [u32],
+) -> io::Result<()> {
     let answer = numbers_of(read(call, case, bytes, output));
     let all = answer.with_value(values_sum(output));
-    all.write(b" answer=#,#,#");
+    all.write(rt, b" answer=#,#,#")
 }
 
-pub(crate) fn show_header(file: &[u8]) {
+pub(crate) fn show_header(rt: &impl Print, file: &[u8]) -> io::Result<()> {
     let header = sisalshed_header(file);
     let none = no_numbers();
     let refused = none.with_value(header.number);
@@ -105,14 +118,14 @@ pub(crate) fn show_header(file: &[u8]) {
     let first = kind.with_value(header.first);
     let count = first.with_value(header.count);
     let all = count.with_value(header.bytes);
-    all.write(b" header=#,#,#,#,#,#");
+    all.write(rt, b" header=#,#,#,#,#,#")
 }
 
-pub(crate) fn show_body(file: &[u8]) {
+pub(crate) fn show_body(rt: &impl Print, file: &[u8]) -> io::Result<()> {
     let body = sisalshed_body(file);
     let none = no_numbers();
     let refused = none.with_value(body.number);
     let start = refused.with(body.start as u64);
     let all = start.with(body.length as u64);
-    all.write(b" body=#,#,#");
+    all.write(rt, b" body=#,#,#")
 }

@@ -5,7 +5,8 @@
 #![tactic(auto)]
 
 use calls::{ask, show_body, show_header, show_read, show_written};
-use libc::{STDIN_FILENO, STDOUT_FILENO};
+use std::io;
+use streams::read_full;
 use tables::buffers::{first_values, marked_bytes, marked_values, table_room};
 use tables::words::{amount, before, behind, given_values, letter_at, value};
 use tables::{decode, lesser, line};
@@ -18,45 +19,46 @@ fn room(case: &[u8]) -> usize {
 }
 
 // The calls that write bytes.
-fn write_values(call: u8, case: &[u8], values: &[u32]) {
+fn write_values(rt: &impl Print, call: u8, case: &[u8], values: &[u32]) -> io::Result<()> {
     let mut output = marked_bytes();
     let end = lesser(room(case), 45064);
-    show_written(call, case, values, &mut output[0..end]);
+    show_written(rt, call, case, values, &mut output[0..end])
 }
 
 // The calls on values.
-fn on_values(call: u8, case: &[u8]) {
+fn on_values(rt: &impl Print, call: u8, case: &[u8]) -> io::Result<()> {
     let all = given_values(case);
     let values = first_values(&all, amount(b'v', case) as usize);
     match call {
-        b'c' | b'l' | b'f' => write_values(call, case, values),
-        _ => ask(call, case, values),
+        b'c' | b'l' | b'f' => write_values(rt, call, case, values),
+        _ => ask(rt, call, case, values),
     }
 }
 
 // The calls that write values.
-fn read_bytes(call: u8, case: &[u8], bytes: &[u8]) {
+fn read_bytes(rt: &impl Print, call: u8, case: &[u8], bytes: &[u8]) -> io::Result<()> {
     let mut output = marked_values();
     let end = lesser(room(case), 4104);
-    show_read(call, case, bytes, &mut output[0..end]);
+    show_read(rt, call, case, bytes, &mut output[0..end])
 }
 
 // The calls on bytes.
-fn on_bytes(call: u8, case: &[u8]) {
+fn on_bytes(rt: &impl Print, call: u8, case: &[u8]) -> io::Result<()> {
     let mut all = marked_bytes();
     let size = decode(value(b'd', case), &mut all);
     let bytes = &all[..size];
     match call {
-        b'h' => show_header(bytes),
-        b'b' => show_body(bytes),
-        _ => read_bytes(call, case, bytes),
+        b'h' => show_header(rt, bytes),
+        b'b' => show_body(rt, bytes),
+        _ => read_bytes(rt, call, case, bytes),
     }
 }
 
 // A letter for each call: the first of its name, `s` for the size of a block, and for lists and files l and f.
-fn run_call(line: &[u8], case: &[u8]) {
+fn run_call(rt: &impl Print, line: &[u8], case: &[u8]) -> io::Result<()> {
     match letter_at(line, 0) {
         b'c' => on_values(
+            rt,
             if letter_at(line, 8) == b' ' {
                 b'c'
             } else {
@@ -64,35 +66,36 @@ fn run_call(line: &[u8], case: &[u8]) {
             },
             case,
         ),
-        b'n' => on_values(b'n', case),
-        b'm' => on_values(b'm', case),
-        b'w' => on_values(letter_at(line, 6), case),
-        b'r' => on_bytes(letter_at(line, 5), case),
-        b'd' => on_bytes(b'd', case),
-        b'h' => on_bytes(b'h', case),
-        b'b' => on_bytes(b'b', case),
-        _ => {}
+        b'n' => on_values(rt, b'n', case),
+        b'm' => on_values(rt, b'm', case),
+        b'w' => on_values(rt, letter_at(line, 6), case),
+        b'r' => on_bytes(rt, letter_at(line, 5), case),
+        b'd' => on_bytes(rt, b'd', case),
+        b'h' => on_bytes(rt, b'h', case),
+        b'b' => on_bytes(rt, b'b', case),
+        _ => Ok(()),
     }
 }
 
-fn run_line(line: &[u8]) {
-    io::write_all(STDOUT_FILENO, before(b':', line));
-    run_call(line, behind(b' ', line));
-    line::end();
+fn run_line(rt: &impl Print, line: &[u8]) -> io::Result<()> {
+    rt.write_all(before(b':', line))?;
+    run_call(rt, line, behind(b' ', line))?;
+    line::end(rt)
 }
 
 // Every line of a text.
-fn run_all(text: &[u8]) {
+fn run_all(rt: &impl Print, text: &[u8]) -> io::Result<()> {
     let mut rest = text;
     while 0 < rest.len() {
-        run_line(before(b'\n', rest));
+        run_line(rt, before(b'\n', rest))?;
         let next = behind(b'\n', rest);
         rest = next;
     }
+    Ok(())
 }
 
-fn main() {
+fn main(rt: HostRuntime) -> io::Result<()> {
     let mut table = table_room();
-    let size = io::read_full(STDIN_FILENO, &mut table);
-    run_all(&table[..size]);
+    let size = read_full(&mut rt.stdin(), &mut table)?;
+    run_all(&rt, &table[..size])
 }

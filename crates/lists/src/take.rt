@@ -61,6 +61,7 @@ fn zeros(entries: &[u32]) -> bool
 }
 
 // 10, 9: whether a block of entries, `count` of them the list's, is filled with 0 and stored at its least width.
+#[tactic(auto, unfolding(crate::specs::kernel::Steps::entries_refusal))]
 fn entries_refusal(lanes: usize, count: usize, width: u32, entries: &[u32]) -> Refusal
     requires { (is_lanes lanes ≡ true) × (count ≤ block_size lanes) × (length entries.now ≡ block_size lanes) }
     ensures { result ≡ entries_refusal lanes count width (at entries.now) }

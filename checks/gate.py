@@ -4,13 +4,16 @@
 
     ( time .ci/run ) > gate.log 2>&1
     python3 checks/gate.py gate.log > docs/GATE.md
+
+A run takes what an earlier one on the same machine passed, and then proves little: the page says how much was done in the run.
 """
 import re
 import sys
 
-PROVED = re.compile(r"^rt: (\S+) proved \((\d+) s\)$", re.M)
-EDIT = re.compile(r"^rt: must-fail (\S+?)/(\S+): refused, as it must be \(first at (\S+); (\d+) s\)$", re.M)
-RAN = re.compile(r"^rt: (\S+) ran .*\((\d+) s\)$", re.M)
+CRATE = re.compile(r"^rt: (\w+) (proved$|is kept: )", re.M)
+EDIT = re.compile(r"^rt: must-fail (\w+)/([\w.-]+)\.edit: refused, as it must be: (?:note: )?(?:\./)?(\S+:\d+:\d+): (.*)$", re.M)
+RAN = re.compile(r"^rt: (\w+) ran\b", re.M)
+OK = re.compile(r"^rt: ok; .*?must-fail edits: (\d+) refused[^;\n]*; (.*)$", re.M)
 LAST = re.compile(r"^\d+ passed, \d+ failed$", re.M)
 REAL = re.compile(r"^real\s+(\d+)m([\d.]+)s$", re.M)
 USER = re.compile(r"^user\s+(\d+)m([\d.]+)s$", re.M)
@@ -18,32 +21,28 @@ SYSTEM = re.compile(r"^sys\s+(\d+)m([\d.]+)s$", re.M)
 
 PAGE = """# The gate's time
 
-From one whole run on two quiet cores: {last}, {real} by the clock, {user} of processor time, and {system} of the system's besides. The
-whole is to stay under 11 minutes by the clock and 15 of processor time, a request's own minute apart, and a crate under 60 seconds. Two
-checks run at a time, so a crate's time depends a little on what runs beside it. A script makes this page; docs/DECISIONS.md, "The gate",
-says what was left out of it, and why.
+From one whole run: {last}, {real} by the clock, {user} of processor time, and {system} of the system's besides. {done} A script makes this
+page; docs/DECISIONS.md, "The gate", says what was left out of it, and why.
 
     ( time .ci/run ) > gate.log 2>&1
     python3 checks/gate.py gate.log > docs/GATE.md
 
-| Crate | Check, s | Edits | Edits, s in all | Slowest edit, s |
-|---|---|---|---|---|
+| Crate | Edits | In this run |
+|---|---|---|
 {rows}
-| all | {checks} | {edits} | {edit_time} | {slowest} |
+| all | {edits} | |
 
 ## The edits
 
-Where the first error stands.
+Where the first error stands, and the goal or the statement that it is in.
 
-| Edit | s | First error |
+| Edit | First error | In |
 |---|---|---|
 {edit_rows}
 
 ## The programs
 
-| Program | Run, s |
-|---|---|
-{ran}
+{ran}.
 """
 
 
@@ -54,18 +53,17 @@ def clock(found):
 
 def main():
     log = open(sys.argv[1]).read()
-    crates = [(name, int(time)) for name, time in PROVED.findall(log)]
-    edits = [(crate, name, place, int(time)) for crate, name, place, time in EDIT.findall(log)]
-    rows = []
-    for name, time in crates:
-        times = [edit[3] for edit in edits if edit[0] == name]
-        rows.append(f"| {name} | {time} | {len(times)} | {sum(times)} | {max(times, default=0)} |")
-    times = [edit[3] for edit in edits]
+    crates = [(name, "proved" if said == "proved" else "kept") for name, said in CRATE.findall(log)]
+    edits = EDIT.findall(log)
+    refused, done = OK.search(log).groups()
+    assert int(refused) == len(edits), "not every edit was refused at a place in a file in this run: rt ci --anew tries all"
+    rows = [f"| {name} | {sum(edit[0] == name for edit in edits)} | {said} |" for name, said in crates]
+    within = [found[0] if (found := re.search(r"`[^`]*`", text)) else "" for _, _, _, text in edits]
     print(PAGE.format(
-        last=LAST.findall(log)[-1], real=clock(REAL.search(log)), user=clock(USER.search(log)), system=clock(SYSTEM.search(log)), rows="\n".join(rows),
-        checks=sum(time for _, time in crates), edits=len(edits), edit_time=sum(times), slowest=max(times),
-        edit_rows="\n".join(f"| `{crate}/{name}` | {time} | `{place}` |" for crate, name, place, time in edits),
-        ran="\n".join(f"| {name} | {time} |" for name, time in RAN.findall(log))), end="")
+        last=LAST.findall(log)[-1], real=clock(REAL.search(log)), user=clock(USER.search(log)), system=clock(SYSTEM.search(log)),
+        done=done[0].upper() + done[1:] + ".", rows="\n".join(rows), edits=len(edits),
+        edit_rows="\n".join(f"| `{crate}/{name}` | `{place}` | {what} |" for (crate, name, place, _), what in zip(edits, within)),
+        ran=", ".join(dict.fromkeys(RAN.findall(log)))), end="")
 
 
 if __name__ == "__main__":

@@ -162,7 +162,7 @@ def file():
 
 def crates():
     """Of each crate of crates.txt the crates of the repository that it stands on."""
-    rows = re.findall(r"^(\w+):(.*)$", (TOP / "crates.txt").read_text(), re.M)
+    rows = re.findall(r"^(\w+)(?: staticlib)?:(.*)$", (TOP / "crates.txt").read_text(), re.M)
     names = {name for name, _ in rows}
     return {name: [dep for dep in deps.split() if dep in names] for name, deps in rows}
 

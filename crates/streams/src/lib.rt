@@ -4,6 +4,7 @@
 ghost use Rattle.std.specs.Prelude.{◌≡◌, ◌<◌, ◌≤◌, IfOk, length, take};
 ghost use Rattle.std.specs.Io.{ReadsAtMost};
 ghost use Rattle.std.specs.Io.KnownBytes.{Consumes, IsAtEnd};
+ghost use Rattle.streams.specs.Inputs.{IsWhole};
 
 use std::env::{Env, FillError};
 use std::io;
@@ -30,8 +31,7 @@ pub fn read_full<R: Read>(reader: &mut R, bytes: &mut [u8]) -> io::Result<usize>
 // fails. Who lends one byte more than an input may have sees both as an input that is too long, and never as a shorter one.
 pub fn read_input<R: Read>(reader: &mut R, bytes: &mut [u8]) -> usize
     ensures in_bounds { (result ≤ length bytes.new) × (result ≡ length (take result bytes.new)) }
-    ensures front { result < length bytes.new → Consumes (R.remaining reader.old) (R.remaining reader.new) (take result bytes.new) }
-    ensures end { result < length bytes.new → IsAtEnd (R.remaining reader.new) }
+    ensures whole { result < length bytes.new → IsWhole (R.remaining reader.old) (take result bytes.new) }
 {
     match read_full(reader, bytes) {
         Ok(size) => size,

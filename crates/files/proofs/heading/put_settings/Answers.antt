@@ -33,7 +33,8 @@ pub put_mode_line-requires : goal.put_mode_line-requires
 put_mode_line-requires c =
     let a = c.args in
     let n = c.put_number-first in
-    let kept = one_length (line₁ a.lanes) (line₂ a.mode) (line₃ a.mode) a.out.now n.new.out n.result (room a.lanes a.mode a.out.now c.requires) n.ensures.value n.ensures.out_after in
+    let kept = one_length (line₁ a.lanes) (line₂ a.mode) (line₃ a.mode) a.out.now n.new.out n.result
+    (room a.lanes a.mode a.out.now c.requires) n.ensures.value n.ensures.out_after in
     omega (arith, c.requires, kept, n.ensures.value, number_line_short (word "lanes=") a.lanes, part_length n.result n.new.out)
 
 pub put_first_line-requires : goal.put_first_line-requires
@@ -41,10 +42,19 @@ put_first_line-requires c =
     let a = c.args in
     let n = c.put_number-first in
     let m = c.put_mode_line in
-    let kept = two_length (line₁ a.lanes) (line₂ a.mode) (line₃ a.mode) a.out.now n.new.out n.result (room a.lanes a.mode a.out.now c.requires) n.ensures.value n.ensures.out_after
+    let kept = two_length (line₁ a.lanes) (line₂ a.mode) (line₃ a.mode) a.out.now n.new.out n.result
+    (room a.lanes a.mode a.out.now c.requires) n.ensures.value n.ensures.out_after
     m.result m.new.out m.ensures.value m.ensures.out_after in
-    omega (arith, c.requires, kept, n.ensures.value, number_line_short (word "lanes=") a.lanes, m.ensures.value, mode_line_short a.mode,
-    part_length (n.result + m.result) (put_mid n.result (length n.new.out - n.result) n.new.out m.new.out))
+    omega (
+      arith,
+      c.requires,
+      kept,
+      n.ensures.value,
+      number_line_short (word "lanes=") a.lanes,
+      m.ensures.value,
+      mode_line_short a.mode,
+      part_length (n.result + m.result) (put_mid n.result (length n.new.out - n.result) n.new.out m.new.out),
+    )
 
 pub returns-clause-out_after : goal.returns-clause-out_after
 returns-clause-out_after c =
@@ -52,6 +62,7 @@ returns-clause-out_after c =
     let n = c.put_number-first in
     let m = c.put_mode_line in
     let f = c.put_first_line in
-    let there = three (line₁ a.lanes) (line₂ a.mode) (line₃ a.mode) a.out.now n.new.out n.result (room a.lanes a.mode a.out.now c.requires) n.ensures.value n.ensures.out_after
+    let there = three (line₁ a.lanes) (line₂ a.mode) (line₃ a.mode) a.out.now n.new.out n.result
+    (room a.lanes a.mode a.out.now c.requires) n.ensures.value n.ensures.out_after
     m.result m.new.out m.ensures.value m.ensures.out_after f.result f.new.out f.ensures.value f.ensures.out_after in
     there.text.here ∙ ap (λ (t : List ℕ). over t a.out.now) (whole a.lanes a.mode)

@@ -21,8 +21,11 @@ returns-then-sized-eq0 c =
 
 pub overflow_add-result : goal.overflow_add-result
 overflow_add-result c =
-    omega (arith, sizes_within c.args.file.now _ c.settings-said.ensures (sym c.is_accepted.ensures ∙ c.if-not-is_accepted.false) _ c.size_lines-sized.ensures
-    c.if-sized-eq0.false)
+    omega (
+      arith,
+      sizes_within c.args.file.now _ c.settings-said.ensures (sym c.is_accepted.ensures ∙ c.if-not-is_accepted.false) _ c.size_lines-sized.ensures
+          c.if-sized-eq0.false,
+    )
 
 pub returns : goal.returns
 returns c =

@@ -18,8 +18,11 @@ returns-then-moded-eq0 c =
 
 pub overflow_add-result : goal.overflow_add-result
 overflow_add-result c =
-    omega (arith, mode_within c.args.text.now _ c.number_line-laned.ensures (sym c.is_lanes.ensures ∙ c.if-not-is_lanes.false) _ c.mode_lines-moded.ensures
-    c.if-moded-eq0.false)
+    omega (
+      arith,
+      mode_within c.args.text.now _ c.number_line-laned.ensures (sym c.is_lanes.ensures ∙ c.if-not-is_lanes.false) _ c.mode_lines-moded.ensures
+          c.if-moded-eq0.false,
+    )
 
 pub returns : goal.returns
 returns c =

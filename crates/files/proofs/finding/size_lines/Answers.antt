@@ -1,6 +1,5 @@
 -- The count line, the bytes line and the empty line, in this order.
-use Rattle.std.proofs.Common.{◌≡◌, ◌+◌, [], ◌∷◌, sym, ◌∙◌, ap, arith}
-use Rattle.std.proofs.Math.ListN.{drop}
+use Rattle.std.proofs.Common.{◌+◌, [], ◌∷◌, sym, ◌∙◌, ap, arith}
 use Rattle.answers.proofs.Parts.{part_is}
 use Rattle.text.specs.Text.{begins}
 use Rattle.files.proofs.Tests.{count_within, no_count, bytes_within, no_bytes, no_end, sizes_are, end_within}
@@ -39,8 +38,11 @@ returns-then-not-begins c =
 pub overflow_add-result : goal.overflow_add-result
 overflow_add-result c =
     let told = c.begins.ensures ∙ ap (begins (10 ∷ [])) (part_is (c.number_line-counted.result.length + c.number_line-sized.result.length) c.args.bytes.now) in
-    omega (arith, end_within c.args.bytes.now _ c.number_line-counted.ensures c.if-counted-eq0.false _ c.number_line-sized.ensures c.if-sized-eq0.false
-    (sym told ∙ c.if-not-begins.false))
+    omega (
+      arith,
+      end_within c.args.bytes.now _ c.number_line-counted.ensures c.if-counted-eq0.false _ c.number_line-sized.ensures c.if-sized-eq0.false
+          (sym told ∙ c.if-not-begins.false),
+    )
 
 pub returns : goal.returns
 returns c =

@@ -1,15 +1,31 @@
 // A list file on standard input; on standard output each value in decimal on its own line, or the line `refused=` and the number.
 #![tactic(auto)]
 
+ghost use Rattle.std.specs.Prelude.{◌≡◌, ℕ, List, ◌<◌, ◌≤◌, length, take};
+ghost use Rattle.streams.specs.Inputs.{IsSeen};
+ghost use Rattle.programs.specs.Programs.{limit, list_to_text};
+
 use programs::list_to_text;
+use std::io::Read;
 use streams::{read_input, warn_of_arguments, write_output};
 
-fn main() {
-    warn_of_arguments();
+// Reads an input, and puts at the front of `output` all that goes out for it. Answers how many bytes that is.
+fn converted<R: Read>(reader: &mut R, input: &mut [u8], output: &mut [u8]) -> usize
+    requires longer_is_seen { limit < length input.old }
+    requires room { 45056 ≤ length output.old }
+    ensures in_bounds { (result ≤ length output.new) × (result ≡ length (take result output.new)) }
+    ensures all_of_it { (bytes : List ℕ) × IsSeen limit (R.remaining reader.old) bytes × (take result output.new ≡ list_to_text bytes) }
+{
+    let size = read_input(reader, input);
+    let answer = list_to_text(&input[..size], output);
+    answer.length
+}
+
+fn main(rt: HostRuntime) {
+    warn_of_arguments(&rt);
     // one byte more than an input may have
     let mut input = [0u8; 65537];
-    let size = read_input(&mut input);
     let mut output = [0u8; 45056];
-    let answer = list_to_text(&input[..size], &mut output);
-    write_output(&output[..answer.length]);
+    let length = converted(&mut rt.stdin(), &mut input, &mut output);
+    write_output(&rt, &output[..length]);
 }

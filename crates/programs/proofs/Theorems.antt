@@ -6,9 +6,10 @@ use Prim.Native.Nat.{ℕ, ◌+◌, ◌≤◌}
 use native.Mathlib.Omega.{arith}
 use borrow.Author.Tests.{le-ltb}
 use lib.Dec.{ltb}
-use lib.ListN.{length, length-append}
+use lib.ListN.{length, take, length-append}
 use Rattle.layout.specs.Layout.{Below}
 use Rattle.answers.specs.Answers.{over}
+use Rattle.answers.proofs.Fronts.{take_over}
 use Rattle.answers.specs.declared.Answer.{Answer}
 use Rattle.answers.specs.declared.Refusal.{Refusal}
 use Rattle.answers.specs.declared.Refusal.TheVariants.{Accepted, NoRoom, TooMany, OutOfOrder, BadHeader}
@@ -132,6 +133,11 @@ all_out t {n} short e = ap (λ (a : Answer). a.refusal) (e ∙ whole_answer t n 
 
 pub whole_left : (t before : List ℕ) → length t ≤ length before → out_left t before ≡ over t before
 whole_left t before h = rw (le-ltb (length before) (length t) h)
+
+-- and stands at the front of the output
+pub out_is : (t before : List ℕ) → length t ≤ length before → {r : Answer} {out : List ℕ} → r ≡ out_answer t (length before) → out ≡ out_left t before → take r.length out ≡ t
+out_is t before short e o =
+    rw (o, whole_left t before short) (take_over _ t before (sym (ap (λ (a : Answer). a.length) (e ∙ whole_answer t (length before) short))))
 
 -- which numbers arise
 

@@ -31,7 +31,7 @@ fn unpack_row(lanes: usize, bytes: &[u8], width: u32, row: u32, held: [u32; 8]) 
     requires lanes_bound { (lanes ≤ 8) × (width ≤ 32) × (row < 32) × (payload_size lanes width ≤ length bytes.now) }
     requires holds_bits { HoldsBits lanes (byte_bits lanes bytes.now) (row * width) (bits_left width row) held }
     ensures row_of { RowOf lanes (payload_entry lanes width bytes.now) row result.entries }
-    ensures holds_bits_2 { HoldsBits lanes (byte_bits lanes bytes.now) ((row + 1) * width) (bits_left width (row + 1)) result.rest }
+    ensures rest_holds { HoldsBits lanes (byte_bits lanes bytes.now) ((row + 1) * width) (bits_left width (row + 1)) result.rest }
 {
     let ones = set1(mask(width));
     let start = row * width;

@@ -2,7 +2,7 @@
 use mathlib.Core.Path.{◌≡◌, refl, sym}
 use mathlib.Core.Bool.{Bool, true, false}
 use native.Mathlib.Omega.{arith}
-use lib.ListN.{length, drop, take}
+use lib.ListN.{drop, take}
 use lib.Seq.{take-length}
 use Rattle.modes.specs.declared.Initial.TheVariants.{None, Number}
 use Rattle.modes.specs.declared.Mode.TheVariants.{Plain, Sorted, Strict}

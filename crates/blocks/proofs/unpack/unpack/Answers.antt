@@ -43,7 +43,7 @@ loop-row-preserved c =
     let fits : o.row * a.lanes + a.lanes ≤ length o.out = room o.row a.lanes c.loop-row-test.true (omega (arith, c.requires.4, o.invariant.3.size)) in (
       omega (arith, c.loop-row-test.true),
       last_next a.mode (values a.mode (payload_entry a.lanes a.width a.bytes.now)) c.process-values.result o.row a.lanes c.requires.0 is,
-      next.ensures.holds_bits_2,
+      next.ensures.rest_holds,
       unpack_more o.invariant.3 is (row_back (o.row * a.lanes) a.lanes c.process-values.result o.out _ (omega (arith, fits)) c.store_row.ensures),
     )
 

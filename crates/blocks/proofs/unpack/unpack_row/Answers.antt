@@ -13,8 +13,8 @@ pub returns-then-width-left-clause-row_of : goal.returns-then-width-left-clause-
 returns-then-width-left-clause-row_of c =
     reach_row _ _ _ _ c.requires.holds_bits c.requires.lanes_bound.0 (omega arith) c.mask.ensures c.set1-ones.ensures c.op_and-entries.ensures
 
-pub returns-then-width-left-clause-holds_bits_2 : goal.returns-then-width-left-clause-holds_bits_2
-returns-then-width-left-clause-holds_bits_2 c =
+pub returns-then-width-left-clause-rest_holds : goal.returns-then-width-left-clause-rest_holds
+returns-then-width-left-clause-rest_holds c =
     reach_held _ _ _ _ c.requires.holds_bits c.requires.lanes_bound.0 (omega arith) c.right_shift_32-rest.ensures
 
 -- a word that is read lies in the bytes
@@ -57,8 +57,8 @@ returns-clause-row_of c =
     (loaded a.lanes ((a.row * a.width + 31) / 32) a.bytes.now c.load_words-in_register.result c.load_words-in_register.ensures)
     c.left_shift_32.ensures c.op_or.ensures c.mask.ensures c.set1-ones.ensures c.op_and-entries-2.ensures
 
-pub returns-clause-holds_bits_2 : goal.returns-clause-holds_bits_2
-returns-clause-holds_bits_2 c =
+pub returns-clause-rest_holds : goal.returns-clause-rest_holds
+returns-clause-rest_holds c =
     let a = c.args in
     more_held _ _ _ _ c.requires.holds_bits c.requires.lanes_bound.0 c.if-width-left.false c.requires.lanes_bound.1
     (λ i. (c.type_inv.bytes i).fits) c.load_words-in_register.result

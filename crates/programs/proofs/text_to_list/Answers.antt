@@ -1,5 +1,5 @@
 -- Too long, no settings, lines that are no values, too many, or what the list gives.
-use Rattle.std.proofs.Common.{◌≡◌, true, sym, ◌∙◌, ap, arith}
+use Rattle.std.proofs.Common.{◌≡◌, true, sym, ◌∙◌, ap, arith, rules}
 use Rattle.std.proofs.Math.ListN.{take, replicate}
 use Rattle.std.proofs.lemmas.Bool.{not-true, not-false}
 use Rattle.answers.specs.Refusals.{accepted}
@@ -12,6 +12,10 @@ use Rattle.files.proofs.Tests.{settings_within}
 use Rattle.programs.specs.Programs.{refused_line, output, values_in}
 use Rattle.programs.proofs.Outcomes.{out_whole, text_too_long, no_settings_lem, not_lines, too_many, list_out, lines_told, values_kept}
 use Rattle.programs.proofs.text_to_list.Goals as goal
+
+-- the values that are handed on are in the room (first, since it's this that more values than there is room for make false)
+pub slice_bounds-values-end : goal.slice_bounds-values-end
+slice_bounds-values-end = search rules
 
 pub returns-then-text-gt-LIMIT : goal.returns-then-text-gt-LIMIT
 returns-then-text-gt-LIMIT c =

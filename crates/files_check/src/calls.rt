@@ -44,12 +44,7 @@ pub(crate) fn show_header(rt: &impl Print, file: &[u8]) -> io::Result<()> {
 }
 
 // Answers the count.
-fn read_into(
-    rt: &impl Print,
-    word: &[u8],
-    file: &[u8],
-    output: &mut [u32],
-) -> io::Result<usize> {
+fn read_into(rt: &impl Print, word: &[u8], file: &[u8], output: &mut [u32]) -> io::Result<usize> {
     let read = files::read(file, output);
     line::answer_and_sum(rt, word, read, values_sum(output))?;
     Ok(read.length)

@@ -29,7 +29,14 @@ fn read_thrice(rt: &impl Print, case: &[u8], body: &[u8]) -> io::Result<()> {
     let semicolon: &[u8] = b";";
     read(rt, b" read=", case, lanes(case), body, 4104)?;
     read(rt, semicolon, case, lanes(case), body, count(case))?;
-    read(rt, semicolon, case, lanes(case), body, one_less(count(case)))
+    read(
+        rt,
+        semicolon,
+        case,
+        lanes(case),
+        body,
+        one_less(count(case)),
+    )
 }
 
 fn list_shown(rt: &impl Print, case: &[u8], values: &[u32]) -> io::Result<()> {
@@ -105,7 +112,10 @@ fn read_body(rt: &impl Print, case: &[u8], body: &[u8]) -> io::Result<()> {
 
 fn check_body(rt: &impl Print, case: &[u8], body: &[u8]) -> io::Result<()> {
     show_bytes(rt, body)?;
-    stop(rt, lists::check(lanes_read(case), mode(case), count(case), body))
+    stop(
+        rt,
+        lists::check(lanes_read(case), mode(case), count(case), body),
+    )
 }
 
 // start=7: the block that starts at that place is framed, checked and read by itself.

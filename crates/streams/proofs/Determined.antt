@@ -23,18 +23,17 @@ use Rattle.streams.proofs.write_output.Kinds as write_output_kinds
 outlives : {l k : List ℕ} → l ≡ [] → (x : ℕ) → Mem x l → Mem x k
 outlives free x m = absurd (not-mem-nil (subst (Mem x) free m))
 
-read_full_asks_nothing : (T : RattleType) (laws : Laws T) (g : ReadGhosts T.Denot) (d : Dict) → T.lives ≡ []
-    → AsksNothing (read_full_kinds.ps T laws) (read_full.Pre T laws g d)
-read_full_asks_nothing T laws g d free κs a = outlives free
+module _ (T : RattleType) (laws : Laws T) (g : ReadGhosts T.Denot) (d : Dict) (free : T.lives ≡ []) where
+  read_full_asks_nothing : AsksNothing (read_full_kinds.ps T laws) (read_full.Pre T laws g d)
+  read_full_asks_nothing κs a = outlives free
 
-read_input_asks_nothing : (T : RattleType) (laws : Laws T) (g : ReadGhosts T.Denot) (d : Dict) → T.lives ≡ []
-    → AsksNothing (read_input_kinds.ps T laws) (read_input.Pre T laws g d)
-read_input_asks_nothing T laws g d free κs a = outlives free
+  read_input_asks_nothing : AsksNothing (read_input_kinds.ps T laws) (read_input.Pre T laws g d)
+  read_input_asks_nothing κs a = outlives free
 
-write_output_asks_nothing : (T : RattleType) (laws : Laws T) (g : PrintGhosts T.Denot) (d : Dict) (h : EprintGhosts T.Denot) (e : Dict) → T.lives ≡ []
-    → AsksNothing (write_output_kinds.ps T laws) (write_output.Pre T laws g d h e)
-write_output_asks_nothing T laws g d h e free κs a = outlives free
+module _ (T : RattleType) (laws : Laws T) (g : PrintGhosts T.Denot) (d : Dict) (h : EprintGhosts T.Denot) (e : Dict) (free : T.lives ≡ []) where
+  write_output_asks_nothing : AsksNothing (write_output_kinds.ps T laws) (write_output.Pre T laws g d h e)
+  write_output_asks_nothing κs a = outlives free
 
-warn_of_arguments_asks_nothing : (T : RattleType) (laws : Laws T) (g : EnvGhosts T.Denot) (d : Dict) (h : EprintGhosts T.Denot) (e : Dict) → T.lives ≡ []
-    → AsksNothing (warn_of_arguments_kinds.ps T laws) (warn_of_arguments.Pre T laws g d h e)
-warn_of_arguments_asks_nothing T laws g d h e free κs a = outlives free
+module _ (T : RattleType) (laws : Laws T) (g : EnvGhosts T.Denot) (d : Dict) (h : EprintGhosts T.Denot) (e : Dict) (free : T.lives ≡ []) where
+  warn_of_arguments_asks_nothing : AsksNothing (warn_of_arguments_kinds.ps T laws) (warn_of_arguments.Pre T laws g d h e)
+  warn_of_arguments_asks_nothing κs a = outlives free

@@ -25,7 +25,7 @@ pub record PacksOnly (L n : ℕ) (e : ℕ → ℕ) : Type 0 where
 abbrev pub OnePayload : Type 0
 OnePayload = (L n : ℕ) (e : ℕ → ℕ) → Fit e (block_size L) n → PacksOnly L n e
 
--- any bytes of the right length are a payload of one block of entries that fit, and `payloadEntry` gives it
+-- any bytes of the right length are a payload of one block of entries that fit, and `payload_entry` gives it
 pub record UnpacksOnly (L n : ℕ) (bs : List ℕ) : Type 0 where
   pub is : LaidOut L n (payload_entry L n bs) bs
   pub fit : Fit (payload_entry L n bs) (block_size L) n

@@ -12,7 +12,7 @@ first_field Plain = None
 first_field (Sorted f) = Number f
 first_field (Strict i) = starting_initial i
 
--- its text is the header's `firstText` (proofs/Lines, first_text_lem)
+-- its text is the header's `first_text` (proofs/Lines, first_text_lem)
 abbrev pub initial_text : Initial → List ℕ
 initial_text None = word "none"
 initial_text (Number f) = decimal f

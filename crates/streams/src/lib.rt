@@ -46,8 +46,9 @@ pub fn write_output(rt: &(impl Print + Eprint), bytes: &[u8]) {
     }
 }
 
-// Where the program was given an argument, says on standard error that it reads none.
-pub fn warn_of_arguments(rt: &(impl Env + Eprint)) {
+// Where the program was given an argument, says on standard error that it reads none. (Of the runtime itself, since a bound `Env` would bring
+// what the kit states of the environment and of folders too.)
+pub fn warn_of_arguments(rt: &HostRuntime) {
     let mut name = [0u8; 1];
     match rt.arg(1, &mut name) {
         Err(FillError::NotPresent) => {}

@@ -100,7 +100,9 @@ def main():
     for name in sorted({*here, *there, *names}):
         check(f"sisalshed_c: {name}, exported as crates/sisalshed has it", name in names and name in here and here[name] == there.get(name))
 
-    said = re.findall(r"Refusal::(\w+) => (\d+)", REFUSALS)
+    # 0 stands for what is not refused
+    refusals = REFUSALS[REFUSALS.index("pub enum Refusal {"):].split("\n}")[0]
+    said = [("Accepted", "0"), *re.findall(r"(?m)^    (\w+) = (\d+),$", refusals)]
     for name, number in said:
         constant = "SISALSHED" + re.sub(r"([A-Z])", r"_\1", name).upper()
         check(f"C: {constant} = {number}", re.search(rf"\b{constant} = {number}\b", header) is not None)

@@ -16,27 +16,36 @@ import sys
 TOP = pathlib.Path(__file__).resolve().parent.parent
 # docs/PROMISES.md, "What no contract says": what is read, and what is written to a stream
 NOT_DETERMINED = {("streams", name) for name in ("read_full", "read_input", "write_output", "warn_of_arguments")}
-NOT_DETERMINED |= {("tables", f"line::{name}") for name in ("named", "write", "answer", "answer_and_sum", "list", "hex", "end")}
+NOT_DETERMINED |= {("tables", "for_each_line")}
 PUBLIC = re.compile(r'^ *pub (?:(?:unsafe|const) )*(?:extern "C" )?fn (\w+)(?:<.*?>)?\(', re.M)
+IMPL = re.compile(r"^impl(?:<.*?>)? (?:\w+ for )?(\w+)", re.M)
 CONTRACT = re.compile(r"^use Rattle\.(\w+)\.proofs\.((?:\w+\.)*\w+)\.(Reads|Kinds) as (\w+)$", re.M)
 ASKS_NOTHING = re.compile(r"^(\w+)_asks_nothing : (AsksNothing) (\w+)_kinds\.ps \3\.Pre()$", re.M)
-# The same of a function that takes a handle, a reader or a writer of any type, where that borrows nothing itself, and with no other premise:
-# written out, or in a module of such functions.
-ANY_TYPE = r"\(T : RattleType\) \(laws : Laws T\)(?: \(\w+ : \w*Ghosts T\.Denot\) \(\w+ : Dict\))+"
-OF_ANY = r"(\w+)_asks_nothing : %s(AsksNothing) \((\w+)_kinds\.ps T laws\) \(\3\.Pre T laws[ \w]*\)()$"
+# The same of a function over any type, a handle, a reader, a writer, an item, and over what runs on each item, where that borrows nothing
+# itself: written out, or in a module of such functions. Of what it is given there are two premises more, and no others: an item is converted
+# to one number, and what runs may always be called.
+GHOSTS = r"(?: \(copy : IsCopy T\)| \(\w+ : \w*Ghosts T\.Denot(?: ℕ)?\)| \(\w+ : \w*Ghosts T F\)| \([\w' ]+ : Dict\))*"
+ANY_TYPE = r"\(T(?: F)? : RattleType\) \(laws : Laws T\)(?: \(laws' : Laws F\))?" + GHOSTS
+FREE = r" \(free : T\.lives ≡ \[\]\)(?: \(free' : F\.lives ≡ \[\]\))?"
+PREMISE = r"(?: \(number : T\.Denot → ℕ\) \(gives : Converts g\.converts number\)| \(always : \(run : F\.Denot\) → always_mut h run\))?"
+OF_ANY = r"(\w+)_asks_nothing : %s(AsksNothing) \((\w+)_kinds\.ps T (?:F )?laws[\w' ]*\) \(\3\.Pre T (?:F )?laws[\w' ]*\)()$"
 ASKS_NOTHING_OF_ANY = re.compile("^" + OF_ANY % (ANY_TYPE + r" → T\.lives ≡ \[\]\s+→ "), re.M)
 ASKS_NOTHING_IN_MODULE = re.compile("^  " + OF_ANY % "", re.M)
-MODULE = re.compile(r"^module _ " + ANY_TYPE + r" \(free : T\.lives ≡ \[\]\) where\n((?:  .*\n|\n)+)", re.M)
+DETERMINED_IN_MODULE = re.compile(
+    r"^  (\w+)_determined : (\w*Determined) \((\w+)_kinds\.ps T laws[\w' ]*\) \(\3_kinds\.r T laws[\w' ]*\) \(\3\.Post T laws[\w' ]*\)(.*)$", re.M)
+MODULE = re.compile(r"^module _ " + ANY_TYPE + FREE + PREMISE + r" where\n((?:  .*\n|\n)+)", re.M)
 DETERMINED = re.compile(r"^(\w+)_determined : (\w*Determined) (\w+)_kinds\.ps \3_kinds\.r \3\.Post(.*)$", re.M)
 
 
 def functions(crate):
-    """The file, the module and the name of each public function, and what the prover has to be told of it."""
+    """The file, the module (of methods of one name their types) and the name of each public function, and what the prover has to be told of it."""
     for source in sorted((crate / "src").glob("**/*.rt")):
         text = source.read_text()
+        names = PUBLIC.findall(text)
         for found in PUBLIC.finditer(text):
             head = re.split(r"\{|^ *ensures|^ *requires", text[found.end():], maxsplit=1, flags=re.M)[0]
-            yield source.relative_to(TOP), source.stem, found[1], claim(head)
+            module = IMPL.findall(text[:found.start()])[-1] if names.count(found[1]) > 1 else source.stem
+            yield source.relative_to(TOP), module, found[1], claim(head)
 
 
 def claim(head):
@@ -74,7 +83,7 @@ def proved(crate):
         return found
 
     modules_of_any = "".join(MODULE.findall(text))
-    return lines((ASKS_NOTHING, text), (ASKS_NOTHING_OF_ANY, text), (ASKS_NOTHING_IN_MODULE, modules_of_any)), lines((DETERMINED, text))
+    return lines((ASKS_NOTHING, text), (ASKS_NOTHING_OF_ANY, text), (ASKS_NOTHING_IN_MODULE, modules_of_any)), lines((DETERMINED, text), (DETERMINED_IN_MODULE, modules_of_any))
 
 
 def main():

@@ -1,34 +1,44 @@
--- The two ways out of a call: refused, with length 0 and memory as it was; or accepted.
+-- The two ways out of a call, where k is what its tests came to: refused, with memory as it was; or accepted.
 use mathlib.Core.Path.{◌≡◌, refl, sym, ◌∙◌, ap}
-use mathlib.Core.Bool.{Bool, true, false, cond}
+use mathlib.Core.Bool.{true, false}
 use mathlib.Core.List.{List}
 use Prim.Native.Nat.{ℕ}
-use Rattle.answers.specs.declared.Answer.{Answer}
+use Rattle.std.specs.Prelude.{Result, Ok, Err, is_ok}
 use Rattle.answers.specs.declared.Refusal.{Refusal}
-use Rattle.answers.specs.declared.Refusal.TheVariants.{Accepted}
-use Rattle.answers.specs.Refusals.{accepted}
-use Rattle.answers.specs.Answers.{answer, over, written}
-use Rattle.answers.proofs.Refusals.{accepted_is}
+use Rattle.answers.specs.Refusals.{Tested, accept, accepted}
+use Rattle.answers.specs.Answers.{answer, length_in, over, written}
 
-pub no_length : (k : Refusal) → ◌≡◌ {A = Answer} (record { refusal = k; length = 0 }) (answer k 0)
-no_length k = ap (λ (n : ℕ). record { refusal = k; length = n }) (go (accepted k))
-  where
-    go : (b : Bool) → ◌≡◌ {A = ℕ} 0 (cond b 0 0)
-    go true = refl
-    go false = refl
+pub answered : {A : Type 0} (k : Tested) (size : A) → accepted k ≡ true → answer k size ≡ Ok size
+answered (Ok t) size h = refl
+answered (Err k) size h = absurd cc
 
--- k is what the call was given, and j what the definition gives
-module _ {k j : Refusal} (e : k ≡ j) where
-  module _ (h : accepted k ≡ false) where
-    pub refused : {r : Answer} → r ≡ answer k 0 → (size : ℕ) → r ≡ answer j size
-    refused q size = q ∙ rw (← e, h)
+pub overwritten : (k : Tested) (new before : List ℕ) → accepted k ≡ true → written k new before ≡ over new before
+overwritten (Ok t) new before h = refl
+overwritten (Err k) new before h = absurd cc
 
-    pub untouched : (new before : List ℕ) → before ≡ written j new before
-    untouched new before = rw (← e, h)
+-- what a call answers tells what its tests came to
+pub refuses : {A : Type 0} (t : Tested) (x : A) {k : Refusal} → answer t x ≡ Err k → t ≡ Err k
+refuses (Ok u) x h = absurd cc
+refuses (Err j) x h = let e : j ≡ _ = cc in ap Err e
 
-  module _ (h : accepted k ≡ true) where
-    pub answered : {r : Answer} {n size : ℕ} → r ≡ answer Accepted n → n ≡ size → r ≡ answer j size
-    answered q s = q ∙ rw (sym e ∙ accepted_is k h, s)
+pub passes : {A : Type 0} (t : Tested) (x : A) {y : A} → answer t x ≡ Ok y → (t ≡ accept) × (y ≡ x)
+passes (Ok u) x h = (refl, cc)
+passes (Err j) x h = absurd cc
 
-    pub overwritten : (new before : List ℕ) {after : List ℕ} → after ≡ over new before → after ≡ written j new before
-    overwritten new before q = rw (← e, h) q
+-- what one answer holds
+pub ok_same : {A : Type 0} {r : Result A Refusal} {x y : A} → r ≡ Ok x → r ≡ Ok y → x ≡ y
+ok_same p q = let e : Ok _ ≡ Ok _ = sym p ∙ q in cc
+
+-- an answer is a length exactly where the tests accept
+pub ok_is : {A : Type 0} (t : Tested) (x : A) → is_ok (answer t x) ≡ accepted t
+ok_is (Ok u) x = refl
+ok_is (Err k) x = refl
+
+-- what is refused is answered with length 0, whatever the size would be, and leaves memory as it was
+pub refused : (k : Tested) (size : ℕ) → accepted k ≡ false → (answer k size ≡ answer k 0) × (length_in (answer k size) ≡ 0)
+refused (Ok t) size h = absurd cc
+refused (Err k) size h = (refl, refl)
+
+pub untouched : (k : Tested) (new before : List ℕ) → accepted k ≡ false → before ≡ written k new before
+untouched (Ok t) new before h = absurd cc
+untouched (Err k) new before h = refl

@@ -1,4 +1,3 @@
-pub mod Guards
 pub mod Refusals
 pub mod Numbers
 pub mod Answers

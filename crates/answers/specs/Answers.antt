@@ -1,17 +1,26 @@
 -- What a call answers, and what it leaves in lent memory.
-use Rattle.std.specs.Prelude.{cond, List, ◌++◌, ℕ, length, drop}
-use Rattle.answers.specs.declared.Answer.{Answer}
+use Rattle.std.specs.Prelude.{cond, List, ◌++◌, ℕ, length, drop, Result, Ok, Err}
 use Rattle.answers.specs.declared.Refusal.{Refusal}
-use Rattle.answers.specs.Refusals.{accepted}
+use Rattle.answers.specs.Refusals.{Tested, number_of, accepted}
 
--- the size where it is accepted, and else "Each returns its number, length 0"
-abbrev pub answer : Refusal → ℕ → Answer
-answer k size = record { refusal = k; length = cond (accepted k) size 0 }
+-- a length, or what else is answered, where it is accepted, and else the refusal
+abbrev pub answer : {A : Type 0} → Tested → A → Result A Refusal
+answer (Ok t) size = Ok size
+answer (Err k) size = Err k
+
+-- "Each returns its number, length 0 (width 0, count 0)": these two of each answer. 0 stands for no refusal.
+abbrev pub number_in : {A : Type 0} → Result A Refusal → ℕ
+number_in (Ok size) = 0
+number_in (Err k) = number_of k
+
+abbrev pub length_in : Result ℕ Refusal → ℕ
+length_in (Ok size) = size
+length_in (Err k) = 0
 
 -- "Memory past those is unchanged": new at the front, and the rest as before
 abbrev pub over : List ℕ → List ℕ → List ℕ
 over new before = new ++ drop (length new) before
 
 -- ".. and leaves lent memory unchanged."
-abbrev pub written : Refusal → List ℕ → List ℕ → List ℕ
+abbrev pub written : Tested → List ℕ → List ℕ → List ℕ
 written k new before = cond (accepted k) (over new before) before

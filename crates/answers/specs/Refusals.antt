@@ -1,11 +1,10 @@
 -- "Numbers of refusal" of document 01.
-use Rattle.std.specs.Prelude.{Bool, cond, ℕ, eqb}
+use Rattle.std.specs.Prelude.{Bool, cond, ℕ, ⊤, Result, Ok, Err, is_ok}
 use Rattle.answers.specs.declared.Refusal.{Refusal}
-use Rattle.answers.specs.declared.Refusal.TheVariants.{Accepted, BadLanes, BadWidth, BadBlock, NoRoom, CutShort, TooWide, TooMany, OutOfOrder, NotLeast, BadFill, LeftOver, BadHeader}
+use Rattle.answers.specs.declared.Refusal.TheVariants.{BadLanes, BadWidth, BadBlock, NoRoom, CutShort, TooWide, TooMany, OutOfOrder, NotLeast, BadFill, LeftOver, BadHeader}
 
--- the number of each refusal; 0 stands for none
+-- the number of each refusal
 abbrev pub number_of : Refusal → ℕ
-number_of Accepted = 0
 number_of BadLanes = 1
 number_of BadWidth = 2
 number_of BadBlock = 3
@@ -19,13 +18,21 @@ number_of BadFill = 10
 number_of LeftOver = 11
 number_of BadHeader = 12
 
-abbrev pub accepted : Refusal → Bool
-accepted k = eqb (number_of k) 0
+-- what comes of some tests: the refusal that is given, or none
+abbrev pub Tested : Type 0
+Tested = Result ⊤ Refusal
+
+-- no test refuses
+abbrev pub accept : Tested
+accept = Ok tt
+
+abbrev pub accepted : Tested → Bool
+accepted k = is_ok k
 
 -- "The first that applies in this order is given, and none otherwise": k where the test holds, and else what follows
-abbrev pub refuse : Bool → Refusal → Refusal → Refusal
-refuse test k next = cond test k next
+abbrev pub refuse : Bool → Refusal → Tested → Tested
+refuse test k next = cond test (Err k) next
 
 -- the first refusal, and where that accepts, what follows
-abbrev pub or_else : Refusal → Refusal → Refusal
+abbrev pub or_else : Tested → Tested → Tested
 or_else first next = cond (accepted first) next first

@@ -1,5 +1,4 @@
 pub mod Places
-pub mod Parts
 pub mod Registers
 pub mod Packing
 pub mod Unpacking

@@ -1,5 +1,5 @@
 -- Each call is accepted exactly when every one of its tests passes.
-use mathlib.Core.Path.{◌≡◌, refl}
+use mathlib.Core.Path.{◌≡◌}
 use mathlib.Core.Bool.{true, not}
 use mathlib.Core.Logic.{◌↔◌}
 use mathlib.Core.List.{List}
@@ -11,8 +11,8 @@ use Rattle.layout.specs.Layout.{at, block_size, payload_size, is_lanes}
 use Rattle.layout.specs.Width.{fits}
 use Rattle.modes.specs.declared.Mode.{Mode}
 use Rattle.modes.specs.Entries.{entries}
-use Rattle.answers.specs.declared.Refusal.TheVariants.{Accepted, BadLanes, BadWidth, BadBlock, NoRoom, CutShort, TooWide}
-use Rattle.answers.specs.Refusals.{accepted, refuse}
+use Rattle.answers.specs.declared.Refusal.TheVariants.{BadLanes, BadWidth, BadBlock, NoRoom, CutShort, TooWide}
+use Rattle.answers.specs.Refusals.{accept, accepted, refuse}
 use Rattle.answers.proofs.Refusals.{passed}
 use Rattle.blocks.specs.Calls.{size_refusal, pack_refusal, unpack_refusal, width_refusal}
 
@@ -26,8 +26,8 @@ size_exactly L n = (there, λ s. rw (s.lanes, le-ltb 32 n s.width))
   where
     there : accepted (size_refusal L n) ≡ true → Sizable L n
     there h =
-        let a = passed _ BadLanes (refuse (ltb 32 n) BadWidth Accepted) refl h in
-        let b = passed _ BadWidth Accepted refl a.1 in
+        let a = passed _ BadLanes (refuse (ltb 32 n) BadWidth accept) h in
+        let b = passed _ BadWidth accept a.1 in
         record { lanes = not-false _ a.0; width = ltb-false 32 n b.0 }
 
 -- what packing accepts
@@ -46,11 +46,11 @@ pack_exactly L m vs room n = (
   where
     there : accepted (pack_refusal L m vs room n) ≡ true → Packable L m vs room n
     there h =
-        let a = passed _ BadLanes _ refl h in
-        let b = passed _ BadWidth _ refl a.1 in
-        let c = passed _ BadBlock _ refl b.1 in
-        let d = passed _ NoRoom _ refl c.1 in
-        let e = passed _ TooWide _ refl d.1 in
+        let a = passed _ BadLanes _ h in
+        let b = passed _ BadWidth _ a.1 in
+        let c = passed _ BadBlock _ b.1 in
+        let d = passed _ NoRoom _ c.1 in
+        let e = passed _ TooWide _ d.1 in
         record {
           lanes = not-false _ a.0;
           width = ltb-false 32 n b.0;
@@ -74,10 +74,10 @@ unpack_exactly L size room n = (
   where
     there : accepted (unpack_refusal L size room n) ≡ true → Unpackable L size room n
     there h =
-        let a = passed _ BadLanes _ refl h in
-        let b = passed _ BadWidth _ refl a.1 in
-        let c = passed _ NoRoom _ refl b.1 in
-        let d = passed _ CutShort _ refl c.1 in
+        let a = passed _ BadLanes _ h in
+        let b = passed _ BadWidth _ a.1 in
+        let c = passed _ NoRoom _ b.1 in
+        let d = passed _ CutShort _ c.1 in
         record {
           lanes = not-false _ a.0;
           width = ltb-false 32 n b.0;
@@ -95,6 +95,6 @@ width_exactly L count = (there, λ s. rw (s.lanes, eq-eqb count (block_size L) s
   where
     there : accepted (width_refusal L count) ≡ true → Measurable L count
     there h =
-        let a = passed _ BadLanes (refuse (not (eqb count (block_size L))) BadBlock Accepted) refl h in
-        let b = passed _ BadBlock Accepted refl a.1 in
+        let a = passed _ BadLanes (refuse (not (eqb count (block_size L))) BadBlock accept) h in
+        let b = passed _ BadBlock accept a.1 in
         record { lanes = not-false _ a.0; block = eqb-true count (block_size L) (not-false _ b.0) }

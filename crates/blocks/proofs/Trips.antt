@@ -1,5 +1,5 @@
 -- Packing and unpacking undo each other, in every mode, over all lanes and widths.
-use mathlib.Core.Path.{◌≡◌, refl, sym, ◌∙◌, ap}
+use mathlib.Core.Path.{◌≡◌, sym, ◌∙◌, ap}
 use mathlib.Core.List.{List, ◌++◌}
 use Prim.Native.Nat.{ℕ, ◌≤◌, ◌<◌, ◌^◌}
 use native.Mathlib.Nat.{lt_of_lt_of_le}
@@ -48,9 +48,9 @@ pub read_back_lem : CallsBack
 read_back_lem L m vs before out n first words ok room =
     let p : Packable L m vs (length before) n = (pack_exactly L m vs (length before) n).0 ok in
     let bs : List ℕ = over (packed L n (entries m (at vs))) before in
-    let wrote : pack_output L m vs before n ≡ bs = sym (overwritten {k = pack_refusal L m vs (length before) n} refl ok (packed L n (entries m (at vs))) before refl) in
+    let wrote : pack_output L m vs before n ≡ bs = overwritten (pack_refusal L m vs (length before) n) (packed L n (entries m (at vs))) before ok in
     let long : payload_size L n ≤ length bs = simp (length-append, length_packed L n (entries m (at vs))) (omega arith) in
     let able = (unpack_exactly L (length bs) (length out) n).1 (record { lanes = p.lanes; width = p.width; enough = room; whole = long }) in
     ap (λ (t : List ℕ). unpack_output L m t out n) wrote
-    ∙ sym (overwritten {k = unpack_refusal L (length bs) (length out) n} refl able (unpacked L m bs n) out refl)
+    ∙ overwritten (unpack_refusal L (length bs) (length out) n) (unpacked L m bs n) out able
     ∙ ap (λ (t : List ℕ). over t out) (packed_unpacked L m vs n (drop (length (packed L n (entries m (at vs)))) before) first p.block words p.fit)

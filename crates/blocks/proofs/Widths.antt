@@ -1,15 +1,11 @@
--- The two ways out of finding the width: refused, with width 0; or accepted.
-use mathlib.Core.Path.{◌≡◌}
-use mathlib.Core.Bool.{true, false, cond}
+-- Where finding the width is refused: the refusal's number, and "width 0".
+use mathlib.Core.Path.{◌≡◌, refl}
+use mathlib.Core.Bool.{false}
 use Prim.Native.Nat.{ℕ}
-use Rattle.answers.specs.declared.Refusal.{Refusal}
-use Rattle.answers.specs.Refusals.{accepted}
-use Rattle.blocks.specs.declared.Width.{Width}
+use Rattle.std.specs.Prelude.{Ok, Err}
+use Rattle.answers.specs.Refusals.{Tested, accepted}
+use Rattle.answers.specs.Answers.{answer, number_in, length_in}
 
--- k is what the call was given, and j what the definition gives
-module _ {k j : Refusal} (e : k ≡ j) where
-  pub unmeasured : accepted k ≡ false → (width : ℕ) → ◌≡◌ {A = Width} (record { refusal = k; width = 0 }) (record { refusal = j; width = cond (accepted j) width 0 })
-  unmeasured h width = rw (← e, h)
-
-  pub measured : accepted k ≡ true → {w width : ℕ} → w ≡ width → ◌≡◌ {A = Width} (record { refusal = k; width = w }) (record { refusal = j; width = cond (accepted j) width 0 })
-  measured h q = rw (← e, h, q)
+pub unmeasured : (k : Tested) (width : ℕ) → accepted k ≡ false → (number_in (answer k width) ≡ number_in k) × (length_in (answer k width) ≡ 0)
+unmeasured (Ok t) width h = absurd cc
+unmeasured (Err k) width h = (refl, refl)

@@ -1,13 +1,12 @@
 // The four block calls of document 01. Each takes any input, tests it in the order of "Numbers of refusal", and writes nothing where it refuses.
 #![tactic(auto)]
 
-ghost use Rattle.std.specs.Prelude.{◌≡◌, ◌≤◌, length};
-ghost use Rattle.layout.specs.Layout.{payload_size};
-ghost use Rattle.blocks.specs.Calls.{size_refusal, size_answer, pack_refusal, pack_answer, pack_output, unpack_refusal, unpack_answer, unpack_output, width_refusal, width_answer};
+ghost use Rattle.std.specs.Prelude.{◌≡◌, length};
+ghost use Rattle.blocks.specs.Calls.{size_answer, pack_answer, pack_output, unpack_answer, unpack_output, width_answer};
 
 use answers::{Answer, Refusal};
-use lanes::is_lanes;
-use least_width::least_width;
+use lanes::{Lanes, Width};
+use least_width::{fits, least_width};
 use modes::Mode;
 use pack::pack;
 use unpack::unpack;
@@ -18,63 +17,13 @@ mod rows;
 mod unpack;
 mod words;
 
-// The refusal and the width: 0 where it is refused.
-#[derive(Clone, Copy)]
-pub struct Width {
-    pub refusal: Refusal,
-    pub width: u32,
-}
-
-// How many bytes the words of a payload take.
-fn compute_num_bytes_per_block(lanes: usize, width: u32) -> usize
-    requires { (lanes ≤ 8) × (width ≤ 32) }
-    ensures { result ≡ payload_size lanes width }
-{
-    4 * lanes * width as usize
-}
-
-fn size_refusal(lanes: usize, width: u32) -> Refusal
-    ensures { result ≡ size_refusal lanes width }
-{
-    if !is_lanes(lanes) {
-        return Refusal::BadLanes;
-    }
-    if 32 < width {
-        return Refusal::BadWidth;
-    }
-    Refusal::Accepted
-}
-
 // Payload size: how many bytes a packed block has.
 pub fn compressed_block_size(lanes: usize, width: u32) -> Answer
     ensures { result ≡ size_answer lanes width }
 {
-    let refusal = size_refusal(lanes, width);
-    if !refusal.is_accepted() {
-        return Answer::refused(refusal);
-    }
-    Answer::accepted(compute_num_bytes_per_block(lanes, width))
-}
-
-fn pack_refusal(lanes: usize, mode: Mode, values: &[u32], room: usize, width: u32) -> Refusal
-    ensures { result ≡ pack_refusal lanes mode values.now room width }
-{
-    if !is_lanes(lanes) {
-        return Refusal::BadLanes;
-    }
-    if 32 < width {
-        return Refusal::BadWidth;
-    }
-    if values.len() != 32 * lanes {
-        return Refusal::BadBlock;
-    }
-    if room < compute_num_bytes_per_block(lanes, width) {
-        return Refusal::NoRoom;
-    }
-    if width < least_width(lanes, mode, values) {
-        return Refusal::TooWide;
-    }
-    Refusal::Accepted
+    let lanes = Lanes::new(lanes)?;
+    let width = Width::new(width)?;
+    Ok(lanes.payload_size(width))
 }
 
 // Pack: the payload of exactly a block of values, at the front of `compressed`.
@@ -88,30 +37,20 @@ pub fn compress(
     ensures value { result ≡ pack_answer lanes mode decompressed.now (length compressed.old) width }
     ensures compressed_after { compressed.new ≡ pack_output lanes mode decompressed.now compressed.old width }
 {
-    let refusal = pack_refusal(lanes, mode, decompressed, compressed.len(), width);
-    if !refusal.is_accepted() {
-        return Answer::refused(refusal);
+    let lanes = Lanes::new(lanes)?;
+    let width = Width::new(width)?;
+    if decompressed.len() != lanes.block_size() {
+        return Err(Refusal::BadBlock);
     }
-    pack(lanes, mode, &decompressed[..], &mut compressed[..], width);
-    Answer::accepted(compute_num_bytes_per_block(lanes, width))
-}
-
-fn unpack_refusal(lanes: usize, size: usize, room: usize, width: u32) -> Refusal
-    ensures { result ≡ unpack_refusal lanes size room width }
-{
-    if !is_lanes(lanes) {
-        return Refusal::BadLanes;
+    let size = lanes.payload_size(width);
+    if compressed.len() < size {
+        return Err(Refusal::NoRoom);
     }
-    if 32 < width {
-        return Refusal::BadWidth;
+    if !fits(lanes, mode, decompressed, width) {
+        return Err(Refusal::TooWide);
     }
-    if room < 32 * lanes {
-        return Refusal::NoRoom;
-    }
-    if size < compute_num_bytes_per_block(lanes, width) {
-        return Refusal::CutShort;
-    }
-    Refusal::Accepted
+    pack(lanes, mode, decompressed, compressed, width);
+    Ok(size)
 }
 
 // Unpack: the values of any bytes that are long enough, at the front of `decompressed`.
@@ -125,36 +64,26 @@ pub fn decompress(
     ensures value { result ≡ unpack_answer lanes (length compressed.now) (length decompressed.old) width }
     ensures decompressed_after { decompressed.new ≡ unpack_output lanes mode compressed.now decompressed.old width }
 {
-    let refusal = unpack_refusal(lanes, compressed.len(), decompressed.len(), width);
-    if !refusal.is_accepted() {
-        return Answer::refused(refusal);
+    let lanes = Lanes::new(lanes)?;
+    let width = Width::new(width)?;
+    if decompressed.len() < lanes.block_size() {
+        return Err(Refusal::NoRoom);
     }
-    unpack(lanes, mode, &compressed[..], &mut decompressed[..], width);
-    Answer::accepted(compute_num_bytes_per_block(lanes, width))
-}
-
-fn width_refusal(lanes: usize, count: usize) -> Refusal
-    ensures { result ≡ width_refusal lanes count }
-{
-    if !is_lanes(lanes) {
-        return Refusal::BadLanes;
+    let size = lanes.payload_size(width);
+    if compressed.len() < size {
+        return Err(Refusal::CutShort);
     }
-    if count != 32 * lanes {
-        return Refusal::BadBlock;
-    }
-    Refusal::Accepted
+    unpack(lanes, mode, compressed, decompressed, width);
+    Ok(size)
 }
 
 // Least width: the least number of bits that exactly a block of values fits.
-pub fn num_bits(lanes: usize, mode: Mode, decompressed: &[u32]) -> Width
+pub fn num_bits(lanes: usize, mode: Mode, decompressed: &[u32]) -> Result<u32, Refusal>
     ensures { result ≡ width_answer lanes mode decompressed.now }
 {
-    let refusal = width_refusal(lanes, decompressed.len());
-    if !refusal.is_accepted() {
-        return Width { refusal, width: 0 };
+    let lanes = Lanes::new(lanes)?;
+    if decompressed.len() != lanes.block_size() {
+        return Err(Refusal::BadBlock);
     }
-    Width {
-        refusal,
-        width: least_width(lanes, mode, decompressed),
-    }
+    Ok(least_width(lanes, mode, decompressed))
 }

@@ -7,54 +7,54 @@ ghost use Rattle.modes.specs.Entries.{entries};
 ghost use Rattle.blocks.specs.kernel.Places.{RowOf};
 ghost use Rattle.blocks.specs.kernel.Registers.{Packing};
 
-use crate::rows::load_row;
+use crate::rows::row_of;
 use crate::words::store_words;
 use lanes::scalar::{left_shift_32, op_or, right_shift_32, set1};
+use lanes::{Lanes, Width};
 use modes::{Mode, initial_value, transform};
 
 // Puts row `row` of entries on top of the bits that are held, stores the words that are full, and hands back the bits that are held then.
 // e stands for the entries of the block, whichever it is, and `before` for the output as the block found it.
 fn pack_row(
-    lanes: usize,
+    lanes: Lanes,
     out: &mut [u8],
-    width: u32,
+    width: Width,
     row: u32,
     held: [u32; 8],
     entries: [u32; 8],
 ) -> [u32; 8]
-    requires lanes_nonzero { (0 < lanes) × (lanes ≤ 8) × (width ≤ 32) × (row < 32) × (payload_size lanes width ≤ length out.old) }
-    requires by_index { (l : ℕ) → l < lanes → at entries l < 2 ^ width }
+    requires room { (row < 32) × (payload_size lanes width ≤ length out.old) }
+    requires narrow { (l : ℕ) → l < lanes → at entries l < 2 ^ width }
     ensures { (e : ℕ → ℕ) (before : List ℕ) → RowOf lanes e row entries → Packing lanes width e before row held out.old → Packing lanes width e before (row + 1) result out.new }
 {
+    let used = lanes.count();
+    let width = width.bits();
     let start = row * width;
-    let word = start / 32;
     let inner_cursor = start % 32;
     let remaining = 32 - inner_cursor;
     let out_register = op_or(held, left_shift_32(entries, inner_cursor));
     if width < remaining {
         return out_register;
     }
-    let place = 4 * (word as usize * lanes);
-    store_words(&mut out[place..], lanes, out_register);
+    store_words(out, (start / 32) as usize * used, lanes, out_register);
     right_shift_32(entries, remaining)
 }
 
 // Each row of values becomes a row of entries, which goes on top of the rows before it.
-pub(crate) fn pack(lanes: usize, mode: Mode, values: &[u32], out: &mut [u8], width: u32)
-    requires lanes_nonzero { (0 < lanes) × (lanes ≤ 8) × (width ≤ 32) × (block_size lanes ≤ length values.now) × (payload_size lanes width ≤ length out.old) }
-    requires width_value { fits (entries mode (at values.now)) (block_size lanes) width ≡ true }
+pub(crate) fn pack(lanes: Lanes, mode: Mode, values: &[u32], out: &mut [u8], width: Width)
+    requires room { (block_size lanes ≤ length values.now) × (payload_size lanes width ≤ length out.old) }
+    requires narrow { fits (entries mode (at values.now)) (block_size lanes) width ≡ true }
     ensures { out.new ≡ over (packed lanes width (entries mode (at values.now))) out.old }
 {
+    let used = lanes.count();
     let mut previous = set1(initial_value(mode));
     let mut held = set1(0);
-    let mut row: u32 = 0;
-    while row < 32 {
-        let place = row as usize * lanes;
-        let current = load_row(&values[place..], lanes);
-        let entries = transform(mode, current, previous, lanes);
-        let rest = pack_row(lanes, &mut out[..], width, row, held, entries);
+    for row in 0..32 {
+        let place = row as usize * used;
+        let current = row_of(lanes, |l| values[place + l]);
+        let entries = transform(mode, current, previous, used);
+        let rest = pack_row(lanes, out, width, row, held, entries);
         previous = current;
         held = rest;
-        row += 1;
     }
 }

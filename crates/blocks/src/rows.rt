@@ -1,26 +1,27 @@
-// Rows of values: "Entry k is in lane k mod L and row k div L." The caller lends the part that begins at the row.
-ghost use Rattle.std.specs.Prelude.{◌≡◌, ℕ, ◌≤◌, ◌<◌, length};
+// Rows of values: "Entry k is in lane k mod L and row k div L."
+ghost use Rattle.std.specs.Prelude.{◌≡◌, ℕ, ◌+◌, ◌≤◌, ◌<◌, length};
 ghost use Rattle.layout.specs.Layout.{at};
 ghost use Rattle.blocks.specs.kernel.Places.{RowStored};
 
-// The row that the values start with, one for each lane in use.
-pub(crate) fn load_row(values: &[u32], lanes: usize) -> [u32; 8]
-    requires { (lanes ≤ 8) × (lanes ≤ length values.now) }
-    ensures { (l : ℕ) → l < lanes → at result l ≡ at values.now l }
+use lanes::Lanes;
+
+// The row that has in each lane in use what `number` answers of it.
+pub(crate) fn row_of<F: Fn(usize) -> u32>(lanes: Lanes, number: F) -> [u32; 8]
+    requires { (l : ℕ) → l < lanes → F.pre number l }
+    ensures { (l : ℕ) → l < lanes → F.post number l (at result l) }
 {
-    let mut row = [0u32; 8];
-    for l in 0..lanes {
-        row[l] = values[l];
+    let mut row = [0; 8];
+    for l in 0..lanes.count() {
+        row[l] = number(l);
     }
     row
 }
 
-// The row as the values that `out` starts with.
-pub(crate) fn store_row(out: &mut [u32], lanes: usize, row: [u32; 8])
-    requires { (lanes ≤ 8) × (lanes ≤ length out.old) }
-    ensures { RowStored 0 lanes row out.old out.new }
+// The row in the values from place `first` on, one for each lane in use.
+pub(crate) fn store_row(out: &mut [u32], first: usize, lanes: Lanes, row: [u32; 8])
+    requires { first + lanes ≤ length out.old }
+    ensures { RowStored first lanes row out.old out.new }
 {
-    for l in 0..lanes {
-        out[l] = row[l];
-    }
+    let used = lanes.count();
+    out[first..first + used].copy_from_slice(&row[..used]);
 }

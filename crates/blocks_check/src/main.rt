@@ -3,47 +3,33 @@
 // written, and behind it what the calls answer. checks/blocks.py makes the table, and works out the same answers from document 01.
 #![tactic(auto)]
 
-use cases::{all_calls, payload, trip, width_zero};
+use cases::{all_calls, show_bytes, show_held, show_payload, there_and_back, trip, width_zero};
 use std::io;
-use streams::read_full;
-use tables::buffers::table_room;
-use tables::line;
+use tables::for_each_line;
 use tables::words::{before, behind, letter_at};
 
-mod buffers;
 mod calls;
 mod cases;
 mod inputs;
 
-// The kinds: `calls`, `zero`, `trip`, and `payload`, `bytes` and `kept`.
-fn run_kind(rt: &impl Print, kind: u8, case: &[u8]) -> io::Result<()> {
-    match kind {
-        b'c' => all_calls(rt, case),
-        b'z' => width_zero(rt, case),
-        b't' => trip(rt, case),
-        _ => payload(rt, kind, case),
+// The kinds: `calls`, `zero`, `trip`, and a block there and back with its `payload`, its `bytes` or what is `kept`.
+fn run_kind(rt: &impl Print, line: &[u8]) -> io::Result<()> {
+    match letter_at(behind(b':', line), 1) {
+        b'c' => all_calls(rt, line),
+        b'z' => width_zero(rt, line),
+        b't' => trip(rt, line),
+        b'p' => there_and_back(rt, line, |output| show_payload(rt, line, output)),
+        b'b' => there_and_back(rt, line, |output| show_bytes(rt, line, output)),
+        _ => there_and_back(rt, line, |output| show_held(rt, line, output)),
     }
 }
 
-fn run_line(rt: &impl Print, case: &[u8]) -> io::Result<()> {
-    rt.write_all(before(b':', case))?;
-    run_kind(rt, letter_at(behind(b':', case), 1), case)?;
-    line::end(rt)
-}
-
-// Every line of a text.
-fn run_all(rt: &impl Print, text: &[u8]) -> io::Result<()> {
-    let mut rest = text;
-    while 0 < rest.len() {
-        run_line(rt, before(b'\n', rest))?;
-        let next = behind(b'\n', rest);
-        rest = next;
-    }
-    Ok(())
+fn run_line(rt: &impl Print, line: &[u8]) -> io::Result<()> {
+    rt.write_all(before(b':', line))?;
+    run_kind(rt, line)?;
+    println!(rt)
 }
 
 fn main(rt: HostRuntime) -> io::Result<()> {
-    let mut table = table_room();
-    let size = read_full(&mut rt.stdin(), &mut table)?;
-    run_all(&rt, &table[..size])
+    for_each_line(&mut rt.stdin(), |line| run_line(&rt, line))
 }

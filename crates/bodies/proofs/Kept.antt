@@ -13,8 +13,8 @@ use lib.Seq.{take-append_seam}
 use Rattle.layout.specs.Layout.{Below, block_size}
 use Rattle.layout.proofs.Below.{below_take, below_drop}
 use Rattle.modes.specs.declared.Mode.{Mode}
-use Rattle.answers.specs.declared.Refusal.TheVariants.{Accepted, LeftOver}
-use Rattle.answers.specs.Refusals.{accepted}
+use Rattle.answers.specs.declared.Refusal.TheVariants.{LeftOver}
+use Rattle.answers.specs.Refusals.{accept, accepted}
 use Rattle.answers.proofs.Refusals.{apart, passed, both}
 use Rattle.order.specs.Order.{after_all, values_of}
 use Rattle.order.proofs.Steps.{after_append, values_append}
@@ -33,7 +33,7 @@ pub record Taken (L : ℕ) (m : Mode) (count : ℕ) (bs : List ℕ) (b : ℕ) (s
   pub within : s.place ≤ length bs
   pub fewer : s.blocks ≤ b
   pub rest : s.left ≡ count - s.blocks * block_size L
-  pub whole : accepted s.refusal ≡ true → (s.blocks ≡ b) × (s.place ≡ length bs)
+  pub whole : accepted s.outcome ≡ true → (s.blocks ≡ b) × (s.place ≡ length bs)
   pub good : accepted (refusal_from L m (count - s.left) (take s.place bs) s.blocks) ≡ true
   pub next : s.mode ≡ after_all m (values_of m (entries_from L (count - s.left) (take s.place bs) s.blocks))
 
@@ -73,7 +73,7 @@ taken zero L m count bs bytes =
       within = omega arith;
       fewer = omega arith;
       rest = omega (arith, zero-mul (block_size L));
-      whole = λ h. (refl, omega (arith, ltb-false 0 (length bs) (passed (ltb 0 (length bs)) LeftOver Accepted refl h).0));
+      whole = λ h. (refl, omega (arith, ltb-false 0 (length bs) (passed (ltb 0 (length bs)) LeftOver accept h).0));
       good = refl;
       next = refl;
     }

@@ -7,8 +7,7 @@ use native.Mathlib.Nat.{add_assoc}
 use lib.ListN.{drop}
 use Rattle.layout.specs.Layout.{block_size}
 use Rattle.modes.specs.declared.Mode.{Mode}
-use Rattle.answers.specs.declared.Refusal.TheVariants.{Accepted}
-use Rattle.answers.specs.Refusals.{accepted}
+use Rattle.answers.specs.Refusals.{accept, accepted}
 use Rattle.answers.proofs.Refusals.{accepted_is}
 use Rattle.order.specs.Order.{after_all}
 use Rattle.bodies.specs.declared.Stop.{Stop}
@@ -20,7 +19,7 @@ use Rattle.bodies.proofs.Onward.{blocks_none, blocks_next}
 -- a block is taken, or it is refused
 module _ (L : ℕ) (m : Mode) (count : ℕ) (bs : List ℕ) where
   abbrev pub taking : Stop
-  taking = record { refusal = Accepted; blocks = 1; place = size_at L bs; left = count - block_size L; mode = after_all m (values_at L m (min (block_size L) count) bs) }
+  taking = record { outcome = accept; blocks = 1; place = size_at L bs; left = count - block_size L; mode = after_all m (values_at L m (min (block_size L) count) bs) }
 
   module _ (e : accepted (block_refusal L m (min (block_size L) count) bs) ≡ true) where
     pub block_taken : block_stop L m count bs ≡ taking
@@ -40,12 +39,12 @@ module _ (L : ℕ) (m : Mode) (count : ℕ) (bs : List ℕ) where
     unfolding stop_from
     stop_refused b = rw (block_refused, e)
 
-  pub block_refusal_lem : (block_stop L m count bs).refusal ≡ block_refusal L m (min (block_size L) count) bs
+  pub block_refusal_lem : (block_stop L m count bs).outcome ≡ block_refusal L m (min (block_size L) count) bs
   block_refusal_lem = go (accepted (block_refusal L m (min (block_size L) count) bs)) refl
     where
-      go : (t : Bool) → accepted (block_refusal L m (min (block_size L) count) bs) ≡ t → (block_stop L m count bs).refusal ≡ block_refusal L m (min (block_size L) count) bs
-      go true e = ap (λ (s : Stop). s.refusal) (block_taken e) ∙ sym (accepted_is _ e)
-      go false e = ap (λ (s : Stop). s.refusal) (block_refused e)
+      go : (t : Bool) → accepted (block_refusal L m (min (block_size L) count) bs) ≡ t → (block_stop L m count bs).outcome ≡ block_refusal L m (min (block_size L) count) bs
+      go true e = ap (λ (s : Stop). s.outcome) (block_taken e) ∙ sym (accepted_is _ e)
+      go false e = ap (λ (s : Stop). s.outcome) (block_refused e)
 
 -- a body, block by block
 module _ (L : ℕ) (lanes : 0 < L) (m : Mode) where
@@ -65,14 +64,14 @@ pub past_past : (s t u : Stop) → past s (past t u) ≡ past (past s t) u
 past_past s t u = simp add_assoc
 
 -- it stops at the refusal of reading
-pub stop_refusal : (b L : ℕ) (m : Mode) (count : ℕ) (bs : List ℕ) → (stop_from L m count bs b).refusal ≡ refusal_from L m count bs b
+pub stop_refusal : (b L : ℕ) (m : Mode) (count : ℕ) (bs : List ℕ) → (stop_from L m count bs b).outcome ≡ refusal_from L m count bs b
 unfolding refusal_from stop_from
 stop_refusal zero L m count bs = refl
 stop_refusal (suc b) L m count bs = go (accepted (block_refusal L m (min (block_size L) count) bs)) refl (stop_refusal b L _ (count - block_size L) (drop (size_at L bs) bs))
   where
     go : (t : Bool) → accepted (block_refusal L m (min (block_size L) count) bs) ≡ t
-        → (stop_from L (after_all m (values_at L m (min (block_size L) count) bs)) (count - block_size L) (drop (size_at L bs) bs) b).refusal
+        → (stop_from L (after_all m (values_at L m (min (block_size L) count) bs)) (count - block_size L) (drop (size_at L bs) bs) b).outcome
         ≡ refusal_from L (after_all m (values_at L m (min (block_size L) count) bs)) (count - block_size L) (drop (size_at L bs) bs) b
-        → (stop_from L m count bs (suc b)).refusal ≡ refusal_from L m count bs (suc b)
-    go true e rest = ap (λ (s : Stop). s.refusal) (stop_taken L m count bs e b) ∙ rw e rest
-    go false e rest = ap (λ (s : Stop). s.refusal) (stop_refused L m count bs e b) ∙ rw e
+        → (stop_from L m count bs (suc b)).outcome ≡ refusal_from L m count bs (suc b)
+    go true e rest = ap (λ (s : Stop). s.outcome) (stop_taken L m count bs e b) ∙ rw e rest
+    go false e rest = ap (λ (s : Stop). s.outcome) (stop_refused L m count bs e b) ∙ rw e

@@ -8,11 +8,12 @@ use native.Mathlib.Decide.{ℕ_discrete}
 use borrow.Author.Tests.{ltb-false, lt-ltb, le-ltb, eqb-true, eq-eqb, ne_eqb, not-false}
 use lib.Dec.{ltb, eqb}
 use lib.ListN.{length}
+use Rattle.std.specs.Prelude.{Err}
 use Rattle.layout.specs.Layout.{block_size}
 use Rattle.layout.specs.Width.{fits, least_width}
 use Rattle.modes.specs.declared.Mode.{Mode}
-use Rattle.answers.specs.declared.Refusal.TheVariants.{Accepted, BadWidth, CutShort, OutOfOrder, NotLeast, BadFill}
-use Rattle.answers.specs.Refusals.{accepted}
+use Rattle.answers.specs.declared.Refusal.TheVariants.{BadWidth, CutShort, OutOfOrder, NotLeast, BadFill}
+use Rattle.answers.specs.Refusals.{accept, accepted}
 use Rattle.answers.proofs.Refusals.{passed}
 use Rattle.order.specs.Order.{ordered}
 use Rattle.bodies.specs.Reading.{width_at, size_at, entry_at, values_at, all_zero, frame_refusal, block_refusal}
@@ -26,9 +27,9 @@ pub record Framed (L : ℕ) (bs : List ℕ) : Type 0 where
 pub framed : (L : ℕ) (bs : List ℕ) → accepted (frame_refusal L bs) ≡ true → Framed L bs
 unfolding frame_refusal
 framed L bs h =
-    let a = passed _ CutShort _ refl h in
-    let b = passed _ BadWidth _ refl a.1 in
-    let c = passed _ CutShort Accepted refl b.1 in
+    let a = passed _ CutShort _ h in
+    let b = passed _ BadWidth _ a.1 in
+    let c = passed _ CutShort accept b.1 in
     record { some = ltb-false _ _ a.0; narrow = ltb-false _ _ b.0; whole = ltb-false _ _ c.0 }
 
 pub frames : (L : ℕ) (bs : List ℕ) → Framed L bs → accepted (frame_refusal L bs) ≡ true
@@ -53,7 +54,7 @@ zeros_fit e zero = refl
 zeros_fit e (suc m) = rw (zeros_fit e m, zero_tells (e m))
 
 -- "10, 9": filling that is not 0 is told before the width
-pub fill_first : (L : ℕ) (m : Mode) (k : ℕ) (bs : List ℕ) → Framed L bs → all_zero (λ i. entry_at L bs (k + i)) (block_size L - k) ≡ false → block_refusal L m k bs ≡ BadFill
+pub fill_first : (L : ℕ) (m : Mode) (k : ℕ) (bs : List ℕ) → Framed L bs → all_zero (λ i. entry_at L bs (k + i)) (block_size L - k) ≡ false → block_refusal L m k bs ≡ Err BadFill
 unfolding block_refusal
 fill_first L m k bs f h = rw (le-ltb (length bs) 1 f.some, le-ltb 32 (width_at bs) f.narrow, le-ltb (length bs) (size_at L bs) f.whole, h)
 
@@ -71,12 +72,12 @@ pub record Passed (L : ℕ) (m : Mode) (k : ℕ) (bs : List ℕ) : Type 0 where
 pub block_passed : (L : ℕ) (m : Mode) (k : ℕ) (bs : List ℕ) → accepted (block_refusal L m k bs) ≡ true → Passed L m k bs
 unfolding block_refusal
 block_passed L m k bs h =
-    let a = passed _ CutShort _ refl h in
-    let b = passed _ BadWidth _ refl a.1 in
-    let c = passed _ CutShort _ refl b.1 in
-    let d = passed _ BadFill _ refl c.1 in
-    let e = passed _ NotLeast _ refl d.1 in
-    let v = passed _ OutOfOrder Accepted refl e.1 in
+    let a = passed _ CutShort _ h in
+    let b = passed _ BadWidth _ a.1 in
+    let c = passed _ CutShort _ b.1 in
+    let d = passed _ BadFill _ c.1 in
+    let e = passed _ NotLeast _ d.1 in
+    let v = passed _ OutOfOrder accept e.1 in
     record {
       frame = record { some = ltb-false _ _ a.0; narrow = ltb-false _ _ b.0; whole = ltb-false _ _ c.0 };
       entries = record { filling = sym (zeros_fit (λ i. entry_at L bs (k + i)) (block_size L - k)) ∙ not-false _ d.0; least = eqb-true _ _ (not-false _ e.0) };

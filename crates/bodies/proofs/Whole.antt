@@ -17,8 +17,8 @@ use Rattle.layout.proofs.Below.{below_none, below_append, below_take, below_drop
 use Rattle.layout.proofs.Tables.{length_table}
 use Rattle.layout.proofs.Widths.{and_both}
 use Rattle.modes.specs.declared.Mode.{Mode}
-use Rattle.answers.specs.declared.Refusal.TheVariants.{Accepted, LeftOver}
-use Rattle.answers.specs.Refusals.{accepted}
+use Rattle.answers.specs.declared.Refusal.TheVariants.{LeftOver}
+use Rattle.answers.specs.Refusals.{accept, accepted}
 use Rattle.answers.proofs.Refusals.{passed, both}
 use Rattle.order.specs.Order.{after_all, ordered, values_of}
 use Rattle.order.proofs.Steps.{values_append, ordered_append}
@@ -59,7 +59,7 @@ pub sound : (b L : ℕ) (m : Mode) (count : ℕ) (bs : List ℕ) → count ≤ b
     → accepted (refusal_from L m count bs b) ≡ true → Written L m count bs b (entries_from L count bs b)
 unfolding refusal_from entries_from blocks_of values_of ordered
 sound zero L m count bs few bytes h =
-    let a = passed (ltb 0 (length bs)) LeftOver Accepted refl h in
+    let a = passed (ltb 0 (length bs)) LeftOver accept h in
     record { body = empty bs (ltb-false 0 (length bs) a.0); size = omega (arith, zero-mul (block_size L)); small = below_none (omega arith); order = refl }
 sound (suc b) L m count bs few bytes h =
     let k : ℕ = min (block_size L) count in

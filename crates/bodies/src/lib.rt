@@ -4,11 +4,11 @@
 use answers::Refusal;
 use modes::Mode;
 
-// Where reading stopped: at what refusal, how many blocks it had taken, the place in the bytes where they end, how many values were left,
+// Where reading stopped: at what refusal if any, how many blocks it had taken, the place in the bytes where they end, how many values were left,
 // and the mode past those that the blocks hold.
-#[derive(Clone, Copy)]
+#[derive(Clone, Copy, Debug, PartialEq, Eq)]
 pub struct Stop {
-    pub refusal: Refusal,
+    pub outcome: Result<(), Refusal>,
     pub blocks: usize,
     pub place: usize,
     pub left: usize,

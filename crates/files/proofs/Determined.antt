@@ -21,13 +21,13 @@ find_asks_nothing : AsksNothing find_kinds.ps find.Pre
 find_asks_nothing κs a = tt
 
 find_determined : AnswerDetermined find_kinds.ps find_kinds.r find.Post
-find_determined κs a z z' e e' p q = p ∙ sym q
+find_determined κs a z z' e e' p q = p.0 ∙ sym q.0
 
 find_file_asks_nothing : AsksNothing find_file_kinds.ps find_file.Pre
 find_file_asks_nothing κs a = tt
 
 find_file_determined : AnswerDetermined find_file_kinds.ps find_file_kinds.r find_file.Post
-find_file_determined κs a z z' e e' p q = p ∙ sym q
+find_file_determined κs a z z' e e' p q = p.0 ∙ sym q.0
 
 header_asks_nothing : AsksNothing header_kinds.ps header.Pre
 header_asks_nothing κs a = tt
@@ -58,4 +58,4 @@ settings_asks_nothing : AsksNothing settings_kinds.ps settings.Pre
 settings_asks_nothing κs a = tt
 
 settings_determined : AnswerDetermined settings_kinds.ps settings_kinds.r settings.Post
-settings_determined κs a z z' e e' p q = p ∙ sym q
+settings_determined κs a z z' e e' p q = p.0 ∙ sym q.0

@@ -1,7 +1,8 @@
 pub mod Lines
-pub mod Filing
+pub mod Tried
 pub mod FoundLines
-pub mod Tests
+pub mod Filing
+pub mod Outcomes
 pub mod Theorems
 pub mod Determined
 pub mod Largest

@@ -2,13 +2,10 @@
 use mathlib.Core.Path.{◌≡◌, refl, sym, ◌∙◌, ap}
 use mathlib.Core.Bool.{Bool, true, false, cond}
 use mathlib.Core.List.{List, [], ◌∷◌, ◌++◌, append_assoc}
-use Prim.Native.Nat.{ℕ, ◌+◌, ◌-◌, ◌≤◌}
+use Prim.Native.Nat.{ℕ, ◌≤◌}
 use native.Mathlib.Omega.{arith}
 use lib.Dec.{eqb}
 use lib.ListN.{length, length-append}
-use borrow.Rule.Slice.PartMut.{mid_of, put_mid}
-use Rattle.answers.specs.Answers.{over}
-use Rattle.answers.proofs.Fronts.{Front, front_length, front_part}
 use Rattle.modes.specs.declared.Initial.{Initial}
 use Rattle.modes.specs.declared.Initial.TheVariants.{None, Number}
 use Rattle.modes.specs.declared.Mode.{Mode}
@@ -17,7 +14,7 @@ use Rattle.text.specs.Text.{word, decimal, line}
 use Rattle.text.proofs.Lines.{number_line_short, line_rest}
 use Rattle.files.specs.declared.heading.Header.{Header}
 use Rattle.files.specs.kernel.Lengths.{longest_number_line, longest_mode_line, longest_settings, longest_header}
-use Rattle.files.specs.Header.{mode_word, first_text, settings, file_of}
+use Rattle.files.specs.Header.{mode_word, first_text, settings, file_of, header_text}
 use Rattle.files.specs.kernel.First.{first_field, initial_text}
 
 -- how long lines are
@@ -88,33 +85,13 @@ header_short h =
     let w : List ℕ = 10 ∷ [] in
     omega (arith, ap length (header_are h []), length-append (t ++ (u ++ v)) w, length-append t (u ++ v), length-append u v, settings_short h.lanes h.mode, number_line_short (word "count=") h.count, number_line_short (word "bytes=") h.bytes)
 
--- three texts one behind another, n bytes in all, at the front of `final`
-pub record Three (t u v out : List ℕ) (n : ℕ) (final : List ℕ) : Type 0 where
-  pub small : n ≤ length out
-  pub kept : length final ≡ length out
-  pub answer : n ≡ length (t ++ (u ++ v))
-  pub text : Front (t ++ (u ++ v)) out final
+-- as it is put, line after line
+regroup : (a b c d e : List ℕ) → (((a ++ b) ++ c) ++ d) ++ e ≡ a ++ (b ++ (c ++ (d ++ e)))
+regroup a b c d e = simp append_assoc
 
-module _ (t u v out o₁ : List ℕ) (a : ℕ) (room : length t + length u + length v ≤ length out) (l₁ : a ≡ length t) (e₁ : o₁ ≡ over t out) where
-  one : Front t out o₁
-  one = record { fits = omega arith; here = e₁ }
-
-  pub one_length : length o₁ ≡ length out
-  one_length = front_length one a (sym l₁)
-
-  module _ (b : ℕ) (y : List ℕ) (l₂ : b ≡ length u) (e₂ : y ≡ over u (mid_of a (length o₁ - a) o₁)) where
-    two : Front (t ++ u) out (put_mid a (length o₁ - a) o₁ y)
-    two = front_part one a (sym l₁) u y (omega arith) e₂
-
-    two_far : length (t ++ u) ≡ a + b
-    two_far = length-append t u ∙ rw (l₁, l₂)
-
-    pub two_length : length (put_mid a (length o₁ - a) o₁ y) ≡ length out
-    two_length = front_length two (a + b) two_far
-
-    module _ (c : ℕ) (z : List ℕ) (l₃ : c ≡ length v) (e₃ : z ≡ over v (mid_of (a + b) (length (put_mid a (length o₁ - a) o₁ y) - (a + b)) (put_mid a (length o₁ - a) o₁ y))) where
-      pub three : Three t u v out (a + b + c) (put_mid (a + b) (length (put_mid a (length o₁ - a) o₁ y) - (a + b)) (put_mid a (length o₁ - a) o₁ y) z)
-      three =
-          let far : length (t ++ (u ++ v)) ≡ a + b + c = rw (← append_assoc t u v) (length-append (t ++ u) v ∙ rw (two_far, l₃)) in
-          let front : Front (t ++ (u ++ v)) out (put_mid (a + b) (length (put_mid a (length o₁ - a) o₁ y) - (a + b)) (put_mid a (length o₁ - a) o₁ y) z) = rw (← append_assoc t u v) (front_part two (a + b) two_far v z (omega arith) e₃) in
-          record { small = omega arith; kept = front_length front (a + b + c) far; answer = sym far; text = front }
+pub header_put : (h : Header) → ((((line "lanes=" (decimal h.lanes) [] ++ line "mode=" (mode_word h.mode) []) ++ line "first=" (first_text h.mode) []) ++ line "count=" (decimal h.count) []) ++ line "bytes=" (decimal h.bytes) []) ++ (10 ∷ []) ≡ header_text h
+header_put h =
+    let c : List ℕ = line "count=" (decimal h.count) [] in
+    let b : List ℕ = line "bytes=" (decimal h.bytes) [] in
+    ap (λ (t : List ℕ). t ++ (10 ∷ [])) (regroup (line "lanes=" (decimal h.lanes) []) (line "mode=" (mode_word h.mode) []) (line "first=" (first_text h.mode) []) c b ∙ settings_are h.lanes h.mode (c ++ b) ∙ sym (settings_rest h.lanes h.mode (c ++ b)))
+    ∙ header_are h []

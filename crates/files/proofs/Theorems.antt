@@ -1,16 +1,19 @@
 -- List files, there and back.
-use mathlib.Core.Path.{◌≡◌, refl, sym, ◌∙◌, ap, ap₂}
+use mathlib.Core.Path.{◌≡◌, refl, sym, ◌∙◌, ap}
 use mathlib.Core.Bool.{Bool, true, false}
 use mathlib.Core.List.{List, [], ◌++◌}
 use Prim.Native.Nat.{ℕ, ◌^◌, ◌≤◌, ◌<◌}
 use native.Mathlib.Omega.{arith}
-use borrow.Author.Tests.{le-ltb}
+use borrow.Author.Tests.{eqb-true, eq-eqb, le-ltb}
 use lib.ListN.{length, drop}
 use lib.Seq.{drop_at}
+use Rattle.std.specs.Prelude.{Some, Result, Ok, is_ok}
 use Rattle.layout.specs.Layout.{Below, is_lanes}
+use Rattle.layout.proofs.Widths.{and_both}
+use Rattle.answers.specs.declared.Refusal.{Refusal}
 use Rattle.answers.specs.Answers.{over}
-use Rattle.answers.specs.declared.Refusal.TheVariants.{Accepted}
-use Rattle.answers.specs.Refusals.{accepted}
+use Rattle.answers.specs.declared.Refusal.TheVariants.{BadHeader}
+use Rattle.answers.specs.Refusals.{accept, accepted}
 use Rattle.answers.proofs.Refusals.{apart, accepted_is, both}
 use Rattle.layout.proofs.Below.{below_drop}
 use Rattle.modes.specs.Entries.{first_of}
@@ -28,18 +31,17 @@ use Rattle.lists.specs.Demand.{Holds}
 use Rattle.lists.proofs.Demand.{list_read, body_accepted, list_back}
 use Rattle.text.specs.Text.{begins}
 use Rattle.text.proofs.Beginnings.{stands_whole, whole_begins}
-use Rattle.files.specs.declared.HeaderAnswer.{HeaderAnswer}
 use Rattle.files.specs.declared.Found.{Found}
-use Rattle.files.specs.declared.SettingsFound.{SettingsFound}
+use Rattle.files.specs.declared.heading.Settings.{Settings}
 use Rattle.files.specs.declared.heading.Header.{Header}
 use Rattle.files.specs.Header.{mode_word, first_text, settings, file_of, read_back, header_text, IsHeader, Heads, Sets}
-use Rattle.files.specs.kernel.Finding.{settings_in, header_found}
+use Rattle.files.specs.kernel.Finding.{settings_lines_in, settings_in, header_lines_in, header_found}
 use Rattle.files.specs.Claims.{FoundExactly, FoundBack, HeaderNotFound, OpensExactly, HeaderBack, HeaderAgain, SettingsExactly, SettingsBack, SettingsNotFound, WrittenBack, FileWritten, ListBack, Files, ReadExactly, ReadOnly, FileAgain}
-use Rattle.files.specs.Opening.{is_settings, is_headed, header_in, body_in, is_file, header_refusal, header_answer, open_answer}
+use Rattle.files.specs.Opening.{is_settings, settings_said, is_headed, found_in, header_in, body_in, is_file, header_refusal, header_answer, open_answer}
 use Rattle.files.specs.Calls.{list_in, read_file_refusal, read_file_answer, read_file_output, header_for, file_for, write_file_output}
-use Rattle.files.proofs.Tests.{not_set, not_headed, filed, is_file_lem}
+use Rattle.files.proofs.Tried.{told, not_told}
 use Rattle.files.proofs.Filing.{file_splits}
-use Rattle.files.proofs.FoundLines.{settings_there, settings_found, header_there, header_found_lem}
+use Rattle.files.proofs.FoundLines.{SettingsThere, settings_there, settings_found, HeaderThere, header_there, header_found_lem}
 use Rattle.files.proofs.Lines.{first_text_lem, settings_rest}
 use Rattle.files.specs.kernel.First.{initial_text}
 
@@ -47,30 +49,54 @@ use Rattle.files.specs.kernel.First.{initial_text}
 
 -- where one is found it is there, and the body behind it
 module _ (file : List ℕ) (h : is_headed file ≡ true) where
+  there : HeaderThere file (found_in file)
+  there = told (HeaderThere file) BadHeader (header_lines_in file) _ (header_there file) h
+
   pub found_sound : IsHeader (header_in file)
-  found_sound = (header_there file h).sound
+  found_sound = there.sound
 
   -- the body starts where the header's text ends
-  pub found_start : (header_found file).start ≡ length (header_text (header_in file))
-  found_start = (header_there file h).stands.size
+  pub found_start : (found_in file).start ≡ length (header_text (header_in file))
+  found_start = there.stands.size
 
   pub found_whole : file ≡ file_of (header_in file) (body_in file)
-  found_whole = stands_whole (header_there file h).stands ∙ file_splits (header_in file) (body_in file)
+  found_whole = stands_whole there.stands ∙ file_splits (header_in file) (body_in file)
 
 -- and what some header writes is found, whatever stands behind it
 module _ (file : List ℕ) (h : Header) (body : List ℕ) (sound : IsHeader h) (whole : file ≡ file_of h body) where
   split : file ≡ header_text h ++ body
   split = whole ∙ sym (file_splits h body)
 
-  pub header_is_found : header_found file ≡ record { refusal = Accepted; header = h; start = length (header_text h) }
-  header_is_found = header_found_lem file h sound (ap (begins (header_text h)) split ∙ whole_begins (header_text h) body)
+  lines : header_lines_in file ≡ Some (record { header = h; start = length (header_text h) })
+  lines = header_found_lem file h sound (ap (begins (header_text h)) split ∙ whole_begins (header_text h) body)
+
+  pub header_is_found : header_found file ≡ Ok (record { header = h; start = length (header_text h) })
+  header_is_found = rw lines
+
+  pub fields_behind : header_in file ≡ h
+  fields_behind = rw (lines, header_in)
 
   pub body_behind : body_in file ≡ body
-  body_behind = ap (λ (f : Found). drop f.start file) header_is_found ∙ ap (drop (length (header_text h))) split ∙ drop_at (header_text h) body (length (header_text h)) refl
+  body_behind = rw lines (ap (drop (length (header_text h))) split ∙ drop_at (header_text h) body (length (header_text h)) refl)
 
 -- a file begins with a header exactly where some header writes its front
 pub found_exactly : FoundExactly
-found_exactly file = (λ h. (header_in file, (body_in file, (found_sound file h, found_whole file h))), λ x. ap (λ (f : Found). accepted f.refusal) (header_is_found file x.0 x.1.0 x.1.1.0 x.1.1.1))
+found_exactly file = (λ h. (header_in file, (body_in file, (found_sound file h, found_whole file h))), λ x. ap (λ (r : Result Found Refusal). is_ok r) (header_is_found file x.0 x.1.0 x.1.1.0 x.1.1.1))
+
+-- what a file passes
+pub record Filed (file : List ℕ) : Type 0 where
+  pub headed : is_headed file ≡ true
+  pub bytes : (header_in file).bytes ≡ length (body_in file)
+
+pub filed : (file : List ℕ) → is_file file ≡ true → Filed file
+unfolding is_file
+filed file h =
+    let a = and_both (is_headed file) _ h in
+    record { headed = a.0; bytes = eqb-true _ _ a.1 }
+
+is_file_lem : (file : List ℕ) → Filed file → is_file file ≡ true
+unfolding is_file
+is_file_lem file f = rw (f.headed, eq-eqb (header_in file).bytes (length (body_in file)) f.bytes)
 
 -- a file that some header writes, opened
 
@@ -80,20 +106,17 @@ header_heads file h =
     record { sound = found_sound file f.headed; whole = found_whole file f.headed; agrees = f.bytes }
 
 module _ {file : List ℕ} {h : Header} {body : List ℕ} (hd : Heads file h body) where
-  found : header_found file ≡ record { refusal = Accepted; header = h; start = length (header_text h) }
-  found = header_is_found file h body hd.sound hd.whole
-
   pub fields_found : header_in file ≡ h
-  fields_found = ap (λ (f : Found). f.header) found
+  fields_found = fields_behind file h body hd.sound hd.whole
 
   pub body_found : body_in file ≡ body
   body_found = body_behind file h body hd.sound hd.whole
 
   pub heads_file : is_file file ≡ true
-  heads_file = is_file_lem file (record { headed = ap (λ (f : Found). accepted f.refusal) found; bytes = rw (fields_found, body_found) hd.agrees })
+  heads_file = is_file_lem file (record { headed = ap (λ (r : Result Found Refusal). is_ok r) (header_is_found file h body hd.sound hd.whole); bytes = rw (fields_found, body_found) hd.agrees })
 
   -- a header written is read back as it was, and the body with it
-  pub header_back : header_answer file ≡ record { refusal = Accepted; header = h }
+  pub header_back : header_answer file ≡ Ok h
   header_back = rw (heads_file, fields_found)
 
   pub body_back : open_answer file ≡ body
@@ -112,10 +135,10 @@ pub found_back : FoundBack
 found_back = header_is_found
 
 pub header_not_found : HeaderNotFound
-header_not_found file = not_headed file
+header_not_found file = not_told BadHeader (header_lines_in file)
 
 pub settings_not_found : SettingsNotFound
-settings_not_found text = not_set text
+settings_not_found text = not_told BadHeader (settings_lines_in text)
 
 pub comes_back : HeaderBack
 comes_back file h body hd = (header_back hd, body_back hd)
@@ -123,7 +146,7 @@ comes_back file h body hd = (header_back hd, body_back hd)
 pub header_again : HeaderAgain
 header_again file h =
     let x = (opens_exactly file).0 h in
-    x.1.1.whole ∙ sym (ap₂ file_of (ap (λ (o : HeaderAnswer). o.header) (header_back x.1.1)) (body_back x.1.1))
+    (x.0, (header_back x.1.1, x.1.1.whole ∙ sym (ap (file_of x.0) (body_back x.1.1))))
 
 -- the lanes, mode and first lines of a text, whatever stands behind them
 
@@ -131,26 +154,28 @@ module _ {text : List ℕ} {L : ℕ} {m : Mode} {rest : List ℕ} (s : Sets text
   split_text : text ≡ settings L m [] ++ rest
   split_text = s.whole ∙ sym (settings_rest L m rest)
 
-  pub settings_back : settings_in text ≡ record { refusal = Accepted; lanes = L; mode = m; length = length (settings L m []) }
-  settings_back = settings_found text L m s.told (ap (begins (settings L m [])) split_text ∙ whole_begins (settings L m []) rest)
+  set_lines : settings_lines_in text ≡ Some (record { lanes = L; mode = m; length = length (settings L m []) })
+  set_lines = settings_found text L m s.told (ap (begins (settings L m [])) split_text ∙ whole_begins (settings L m []) rest)
 
-  pub rest_found : drop (settings_in text).length text ≡ rest
-  rest_found = ap (λ (p : SettingsFound). drop p.length text) settings_back ∙ ap (drop (length (settings L m []))) split_text ∙ drop_at (settings L m []) rest (length (settings L m [])) refl
+  pub settings_back : settings_in text ≡ Ok (record { lanes = L; mode = m; length = length (settings L m []) })
+  settings_back = rw set_lines
 
-pub settings_sets : (text : List ℕ) → is_settings text ≡ true → Sets text (settings_in text).lanes (settings_in text).mode (drop (settings_in text).length text)
+  pub rest_found : drop (settings_said text).length text ≡ rest
+  rest_found = rw set_lines (ap (drop (length (settings L m []))) split_text ∙ drop_at (settings L m []) rest (length (settings L m [])) refl)
+
+pub settings_sets : (text : List ℕ) → is_settings text ≡ true → Sets text (settings_said text).lanes (settings_said text).mode (drop (settings_said text).length text)
 settings_sets text h =
-    let t = settings_there text h in
-    let L : ℕ = (settings_in text).lanes in
-    let m : Mode = (settings_in text).mode in
+    let t = told (SettingsThere text) BadHeader (settings_lines_in text) _ (settings_there text) h in
+    let s : Settings = settings_said text in
     record {
       told = t.told;
-      whole = stands_whole t.stands ∙ settings_rest L m (drop (settings_in text).length text);
+      whole = stands_whole t.stands ∙ settings_rest s.lanes s.mode (drop s.length text);
     }
 
 -- accepted are exactly the texts that begin with what some lanes and mode write
 pub settings_exactly : SettingsExactly
 settings_exactly text =
-    (λ h. ((settings_in text).lanes, ((settings_in text).mode, (drop (settings_in text).length text, settings_sets text h))), λ x. ap (λ (p : SettingsFound). accepted p.refusal) (settings_back x.1.1.1))
+    (λ h. ((settings_said text).lanes, ((settings_said text).mode, (drop (settings_said text).length text, settings_sets text h))), λ x. ap (λ (r : Result Settings Refusal). is_ok r) (settings_back x.1.1.1))
 
 pub settings_told : SettingsBack
 settings_told text L m rest s = settings_back s
@@ -189,7 +214,7 @@ body_starting L m vs = rw (starting_entries m vs)
 -- given a list and room, writing is accepted, and leaves exactly the list's file
 pub file_written : FileWritten
 file_written L m vs before lanes l room =
-    let k : measure_refusal L m vs ≡ Accepted = accepted_is _ ((measure_exactly L m vs).1 (record { lanes = lanes; few = l.few; order = l.order })) in
+    let k : measure_refusal L m vs ≡ accept = accepted_is _ ((measure_exactly L m vs).1 (record { lanes = lanes; few = l.few; order = l.order })) in
     rw (writing_parts L m vs (length (file_for L m vs)) (length before), k, le-ltb (length before) (length (file_for L m vs)) room) (refl, refl)
 
 -- a file accepted, written again from what was read, is the same bytes
@@ -199,7 +224,7 @@ module _ (file : List ℕ) (room : ℕ) (bytes : Below 256 file) (h : accepted (
 
   pub held : Holds (header_in file).lanes (header_in file).mode (header_in file).count (body_in file) (list_in file)
   held =
-      list_read (header_in file).lanes (header_in file).mode opened.sound.told.lanes (header_in file).count room (body_in file) (below_drop (header_found file).start file bytes) (both (header_refusal file) _ h).1
+      list_read (header_in file).lanes (header_in file).mode opened.sound.told.lanes (header_in file).count room (body_in file) (below_drop (found_in file).start file bytes) (both (header_refusal file) _ h).1
 
   pub same_file : file_for (header_in file).lanes (header_in file).mode (list_in file) ≡ file
   unfolding file_for
@@ -207,12 +232,13 @@ module _ (file : List ℕ) (room : ℕ) (bytes : Below 256 file) (h : accepted (
       let same : header_for (header_in file).lanes (header_in file).mode (list_in file) ≡ header_in file = rw (held.list.size, ← held.body, ← opened.agrees) in
       rw (same, ← held.body) (sym opened.whole)
 
-  pub file_again : (before : List ℕ) → length file ≤ length before
-      → write_file_output (header_answer file).header.lanes (header_answer file).header.mode (list_in file) before ≡ over file before
-  file_again before enough =
-      let e : (header_answer file).header ≡ header_in file = rw (heads_file opened) in
+  written_again : (before : List ℕ) → length file ≤ length before → write_file_output (header_in file).lanes (header_in file).mode (list_in file) before ≡ over file before
+  written_again before enough =
       let l : IsList (header_in file).mode (length (list_in file)) (list_in file) = rw held.list.size held.list in
-      rw e ((file_written (header_in file).lanes (header_in file).mode (list_in file) before opened.sound.told.lanes l (rw same_file enough)).1 ∙ ap (λ (t : List ℕ). over t before) same_file)
+      (file_written (header_in file).lanes (header_in file).mode (list_in file) before opened.sound.told.lanes l (rw same_file enough)).1 ∙ ap (λ (t : List ℕ). over t before) same_file
+
+  pub file_again : (h : Header) × ((header_answer file ≡ Ok h) × ((before : List ℕ) → length file ≤ length before → write_file_output h.lanes h.mode (list_in file) before ≡ over file before))
+  file_again = (header_in file, (header_back opened, written_again))
 
 -- a file written is accepted and gives the list back
 module _ (L : ℕ) (m : Mode) (vs : List ℕ) (lanes : is_lanes L ≡ true) (first : first_of m < 2 ^ 32) (l : IsList m (length vs) vs) where
@@ -225,7 +251,7 @@ module _ (L : ℕ) (m : Mode) (vs : List ℕ) (lanes : is_lanes L ≡ true) (fir
       written_back (header_for L m vs) (body_of L m vs) lanes first (omega (arith, few)) (omega (arith, body_short L lanes m vs few)) refl
 
   -- its header comes back as it was, and none for strict's 4,294,967,295
-  pub file_header_back : header_answer (file_for L m vs) ≡ record { refusal = Accepted; header = read_back (header_for L m vs) }
+  pub file_header_back : header_answer (file_for L m vs) ≡ Ok (read_back (header_for L m vs))
   file_header_back = header_back heads
 
   holds : Holds L (starting m) (length vs) (body_of L m vs) vs
@@ -236,19 +262,19 @@ module _ (L : ℕ) (m : Mode) (vs : List ℕ) (lanes : is_lanes L ≡ true) (fir
       }
 
   -- whatever the room, if there is room for the list
-  pub file_accepted : (room : ℕ) → length vs ≤ room → read_file_refusal (file_for L m vs) room ≡ Accepted
+  pub file_accepted : (room : ℕ) → length vs ≤ room → read_file_refusal (file_for L m vs) room ≡ accept
   file_accepted room enough =
-      let k : read_refusal L (starting m) (length vs) (body_of L m vs) room ≡ Accepted = accepted_is _ (body_accepted L (starting m) lanes holds room enough) in
+      let k : read_refusal L (starting m) (length vs) (body_of L m vs) room ≡ accept = accepted_is _ (body_accepted L (starting m) lanes holds room enough) in
       rw (heads_file heads, fields_found heads, body_found heads, k)
 
   pub file_list_back : list_in (file_for L m vs) ≡ vs
   file_list_back =
       rw (fields_found heads, body_found heads) (list_back L (starting m) lanes holds)
 
-  pub file_read_back : (out : List ℕ) → length vs ≤ length out → (read_file_answer (file_for L m vs) (length out) ≡ record { refusal = Accepted; length = length vs }) × (read_file_output (file_for L m vs) out ≡ over vs out)
+  pub file_read_back : (out : List ℕ) → length vs ≤ length out → (read_file_answer (file_for L m vs) (length out) ≡ Ok (length vs)) × (read_file_output (file_for L m vs) out ≡ over vs out)
   file_read_back out room =
       let k = file_accepted (length out) room in
-      (rw k (ap (λ (h : Header). record { refusal = Accepted; length = h.count }) (fields_found heads)), rw (k, file_list_back))
+      (rw (k, fields_found heads), rw (k, file_list_back))
 
 pub last_is_none : starting (Strict (Number 4294967295)) ≡ Strict None
 last_is_none = refl

@@ -1,5 +1,4 @@
 pub mod Header
-pub mod Beside
 pub mod Opening
 pub mod Calls
 pub mod kernel

@@ -1,17 +1,17 @@
 // The header of a list file, and its text: document 01's five lines and the empty line.
-ghost use Rattle.std.specs.Prelude.{◌≡◌, [], ◌+◌, ◌≤◌, length};
-ghost use Rattle.answers.specs.Answers.{over};
-ghost use Rattle.text.specs.Text.{line, numbered};
-ghost use Rattle.files.specs.Header.{mode_word, first_text, settings, header_text};
+ghost use Rattle.std.specs.Prelude.{◌≡◌, [], ◌++◌, ◌+◌, ◌≤◌, ◌<◌, length};
+ghost use Rattle.text.specs.Text.{ended, line};
+ghost use Rattle.files.specs.Header.{mode_word, first_text, header_text};
 ghost use Rattle.files.specs.kernel.First.{first_field};
-ghost use Rattle.files.specs.kernel.Lengths.{longest_number_line, longest_mode_line, longest_settings, longest_header};
+ghost use Rattle.files.specs.kernel.Lengths.{longest_number_line};
 
+use arrayvec::ArrayString;
+use itoa::Buffer;
 use modes::{Initial, Mode};
 use order::starting_initial;
-use text::{put_line, put_number_line};
 
 // What the five lines say.
-#[derive(Clone, Copy)]
+#[derive(Clone, Copy, Debug, PartialEq, Eq)]
 pub struct Header {
     pub lanes: u32,
     pub mode: Mode,
@@ -19,27 +19,36 @@ pub struct Header {
     pub bytes: u32,
 }
 
+// How a list is packed, as the lanes, mode and first lines say it, and how long these lines are.
+#[derive(Clone, Copy, Debug, PartialEq, Eq)]
+pub struct Settings {
+    pub lanes: u32,
+    pub mode: Mode,
+    pub length: usize,
+}
+
 // The most bytes of a header's text.
 pub(crate) const LONGEST: usize = 81;
 
-// The line of a name and a number, with room for it.
-fn put_number(name: &[u8], x: u32, out: &mut [u8]) -> usize
-    requires { length name.now + 11 ≤ length out.old }
-    ensures value { result ≡ length (numbered name.now x) }
-    ensures out_after { out.new ≡ over (numbered name.now x) out.old }
+// The line of a name and a value behind the text, with room for it.
+fn push_line(text: &mut ArrayString<LONGEST>, name: &str, value: &str)
+    requires { length text.old.bytes + (length name.now + length value.now) < LONGEST }
+    ensures text_after { text.new.bytes ≡ text.old.bytes ++ (name.now ++ ended value.now []) }
+    ensures size { length text.new.bytes ≡ length text.old.bytes + (length name.now + length value.now + 1) }
 {
-    put_number_line(name, x, out)
+    text.push_str(name);
+    text.push_str(value);
+    text.push_str("\n");
 }
 
-fn put_mode_line(mode: Mode, out: &mut [u8]) -> usize
-    requires { longest_mode_line ≤ length out.old }
-    ensures value { result ≡ length (line "mode=" (mode_word mode) []) }
-    ensures out_after { out.new ≡ over (line "mode=" (mode_word mode) []) out.old }
+fn mode_word(mode: Mode) -> &'static str
+    ensures value { result.now ≡ mode_word mode }
+    ensures short { length result.now ≤ 6 }
 {
     match mode {
-        Mode::Plain => put_line(b"mode=", b"plain", out),
-        Mode::Sorted(_) => put_line(b"mode=", b"sorted", out),
-        Mode::Strict(_) => put_line(b"mode=", b"strict", out),
+        Mode::Plain => "plain",
+        Mode::Sorted(_) => "sorted",
+        Mode::Strict(_) => "strict",
     }
 }
 
@@ -54,42 +63,30 @@ fn first_field(mode: Mode) -> Initial
     }
 }
 
-fn put_first_line(mode: Mode, out: &mut [u8]) -> usize
-    requires { longest_number_line ≤ length out.old }
-    ensures value { result ≡ length (line "first=" (first_text mode) []) }
-    ensures out_after { out.new ≡ over (line "first=" (first_text mode) []) out.old }
+#[tactic(auto, using(crate::proofs::Lines::first_text_lem, text::proofs::Printed::printed))]
+fn push_first_line(text: &mut ArrayString<LONGEST>, mode: Mode)
+    requires { length text.old.bytes + longest_number_line ≤ LONGEST }
+    ensures text_after { text.new.bytes ≡ text.old.bytes ++ line "first=" (first_text mode) [] }
+    ensures size { length text.new.bytes ≤ length text.old.bytes + longest_number_line }
 {
-    let start = first_field(mode);
-    match start {
-        Initial::None => put_line(b"first=", b"none", out),
-        Initial::Number(first) => put_number(b"first=", first, out),
+    match first_field(mode) {
+        Initial::None => push_line(text, "first=", "none"),
+        Initial::Number(first) => push_line(text, "first=", Buffer::new().format(first)),
     }
 }
 
-// The three lines that say how a list is packed. Answers their length.
-fn put_settings(lanes: u32, mode: Mode, out: &mut [u8]) -> usize
-    requires { longest_settings ≤ length out.old }
-    ensures value { result ≡ length (settings lanes mode []) }
-    ensures out_after { out.new ≡ over (settings lanes mode []) out.old }
+// The text of a header. (No `impl Display`: nothing promises that a `write!` answers Ok, and `write` owes the file wherever there is room.)
+#[tactic(auto, using(crate::proofs::Lines::header_put, text::proofs::Printed::printed))]
+pub(crate) fn header_text(header: Header) -> ArrayString<LONGEST>
+    ensures { result.bytes ≡ header_text header }
 {
-    let first = put_number(b"lanes=", lanes, &mut out[..]);
-    let second = first + put_mode_line(mode, &mut out[first..]);
-    second + put_first_line(mode, &mut out[second..])
-}
-
-// The text of the header, at the front of `out`. Answers its length.
-pub(crate) fn put_header(header: Header, out: &mut [u8]) -> usize
-    requires { longest_header ≤ length out.old }
-    ensures value { result ≡ length (header_text header) }
-    ensures out_after { out.new ≡ over (header_text header) out.old }
-{
-    let lanes = header.lanes;
-    let mode = header.mode;
-    let count = header.count;
-    let bytes = header.bytes;
-    let first = put_settings(lanes, mode, &mut out[..]);
-    let second = first + put_number(b"count=", count, &mut out[first..]);
-    let third = second + put_number(b"bytes=", bytes, &mut out[second..]);
-    out[third] = b'\n';
-    third + 1
+    let mut number = Buffer::new();
+    let mut text = ArrayString::new();
+    push_line(&mut text, "lanes=", number.format(header.lanes));
+    push_line(&mut text, "mode=", mode_word(header.mode));
+    push_first_line(&mut text, header.mode);
+    push_line(&mut text, "count=", number.format(header.count));
+    push_line(&mut text, "bytes=", number.format(header.bytes));
+    text.push_str("\n");
+    text
 }

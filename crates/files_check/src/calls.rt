@@ -1,91 +1,76 @@
 // The four calls on one file: what each answers, and the checksum of what it handed back or left.
+use files::heading::Header;
 use modes::{Initial, Mode};
-use std::io;
-use tables::buffers::{first_values, marked_bytes, marked_values};
-use tables::line::{Numbers, no_numbers};
-use tables::{bytes_sum, lesser, line, values_sum};
+use std::{fmt, io};
+use tables::buffers::{BYTE_MARK, VALUE_MARK, VALUES, first};
+use tables::checksum;
+use tables::line::Outcome;
 
-// The mode as two numbers: 0 plain, 1 sorted, 2 strict with none, 3 strict with a number; and the first number, or 0.
-fn with_mode(numbers: Numbers, mode: Mode) -> Numbers {
-    match mode {
-        Mode::Plain => with_both(numbers, 0, 0),
-        Mode::Sorted(first) => with_both(numbers, 1, first),
-        Mode::Strict(start) => match start {
-            Initial::None => with_both(numbers, 2, 0),
-            Initial::Number(first) => with_both(numbers, 3, first),
-        },
+// More bytes than any of the files has that are written.
+const BYTES: usize = 20000;
+
+// The numbers of a header. The mode is two of them: 0 plain, 1 sorted, 2 strict with none, 3 strict with a number; and the first number, or 0.
+#[derive(Clone, Copy)]
+struct Numbers(Header);
+
+impl fmt::Display for Numbers {
+    fn fmt<W: fmt::Write>(&self, f: &mut fmt::Formatter<W>) -> fmt::Result {
+        let Header {
+            lanes,
+            mode,
+            count,
+            bytes,
+        } = self.0;
+        let (kind, first) = match mode {
+            Mode::Plain => (0, 0),
+            Mode::Sorted(first) => (1, first),
+            Mode::Strict(Initial::None) => (2, 0),
+            Mode::Strict(Initial::Number(first)) => (3, first),
+        };
+        write!(f, "{lanes},{kind},{first},{count},{bytes}")
     }
-}
-
-fn with_both(numbers: Numbers, kind: u32, first: u32) -> Numbers {
-    let one = numbers.with_value(kind);
-    one.with_value(first)
-}
-
-// The numbers of a header.
-fn header_numbers(file: &[u8]) -> Numbers {
-    let opened = files::header(file);
-    let refusal = opened.refusal;
-    let header = opened.header;
-    let none = no_numbers();
-    let refused = none.with_value(refusal.number());
-    let mode = header.mode;
-    let modes = with_mode(refused.with_value(header.lanes), mode);
-    with_both(modes, header.count, header.bytes)
 }
 
 // Header and open: the numbers of the header, and the body.
 pub(crate) fn show_header(rt: &impl Print, file: &[u8]) -> io::Result<()> {
-    let body = files::open(file);
-    let header = header_numbers(file);
-    let length = header.with(body.len() as u64);
-    let all = length.with_value(bytes_sum(body));
-    all.write(rt, b" header=#,#,#,#,#,# body=#,#")
-}
-
-// Answers the count.
-fn read_into(rt: &impl Print, word: &[u8], file: &[u8], output: &mut [u32]) -> io::Result<usize> {
-    let read = files::read(file, output);
-    line::answer_and_sum(rt, word, read, values_sum(output))?;
-    Ok(read.length)
-}
-
-// With one value too little room.
-fn read_narrow(rt: &impl Print, file: &[u8], count: usize) -> io::Result<()> {
-    let mut output = marked_values();
-    if 0 < count {
-        let end = lesser(count - 1, 4104);
-        read_into(rt, b" narrow=", file, &mut output[0..end])?;
+    match files::header(file) {
+        Ok(header) => print!(rt; " header=0,{}", Numbers(header))?,
+        Err(refusal) => print!(rt; " header={},0,0,0,0,0", refusal.number())?,
     }
-    Ok(())
+    let body = files::open(file);
+    print!(rt; " body={},{}", body.len(), checksum(body))
 }
 
-// Read.
+// Read: with so much room.
+fn read(file: &[u8], room: usize) -> Outcome {
+    let mut values = [VALUE_MARK; VALUES];
+    let output = &mut values[..room.min(VALUES)];
+    let answer = files::read(file, output);
+    let sum = checksum(output);
+    Outcome { answer, sum }
+}
+
+// With all the room there is, and with one value too little.
 pub(crate) fn show_read(rt: &impl Print, file: &[u8]) -> io::Result<()> {
-    let mut output = marked_values();
-    let count = read_into(rt, b" read=", file, &mut output)?;
-    read_narrow(rt, file, count)
+    let all = read(file, VALUES);
+    print!(rt; " read={all}")?;
+    match all.answer {
+        Ok(0) | Err(_) => Ok(()),
+        Ok(count) => print!(rt; " narrow={}", read(file, count - 1)),
+    }
 }
 
 // Write: with so much room.
-fn write_into(
-    numbers: Numbers,
-    lanes: usize,
-    mode: Mode,
-    values: &[u32],
-    output: &mut [u8],
-) -> Numbers {
-    let answered = numbers.with_answer(files::write(lanes, mode, values, output));
-    answered.with_value(bytes_sum(output))
+fn write(lanes: usize, mode: Mode, values: &[u32], room: usize) -> Outcome {
+    let mut bytes = [BYTE_MARK; BYTES];
+    let output = &mut bytes[..room.min(BYTES)];
+    let answer = files::write(lanes, mode, values, output);
+    let sum = checksum(output);
+    Outcome { answer, sum }
 }
 
-fn write(numbers: Numbers, lanes: usize, mode: Mode, values: &[u32], room: usize) -> Numbers {
-    let mut output = marked_bytes();
-    let end = lesser(room, 20000);
-    write_into(numbers, lanes, mode, values, &mut output[0..end])
-}
-
-// With all the room there is, with just enough, and with one byte too little.
+// What was read, written again: with all the room there is, with just enough, and with one byte too little; with 2 lanes; with more values
+// than a list has; and in strict mode from 4,294,967,295.
 fn write_again(
     rt: &impl Print,
     lanes: usize,
@@ -93,61 +78,28 @@ fn write_again(
     values: &[u32],
     size: usize,
 ) -> io::Result<()> {
-    let again = write(no_numbers(), lanes, mode, values, 20000);
-    let exact = write(again, lanes, mode, values, size);
-    let all = write(
-        exact,
-        lanes,
-        mode,
-        values,
-        if 0 < size { size - 1 } else { 0 },
-    );
-    all.write(rt, b" again=#,#,# exact=#,#,# short=#,#,#")
-}
-
-// With 2 lanes; with more values than a list has; and in strict mode from 4,294,967,295.
-fn write_others(rt: &impl Print, lanes: usize, mode: Mode, values: &[u32]) -> io::Result<()> {
-    let marks = marked_values();
-    let two = write(no_numbers(), 2, mode, values, 20000);
-    let many = write(two, lanes, Mode::Plain, &marks, 20000);
-    let all = write(
-        many,
-        lanes,
-        Mode::Strict(Initial::Number(4294967295)),
-        values,
-        20000,
-    );
-    all.write(rt, b" two=#,#,# many=#,#,# last=#,#,#")
-}
-
-fn write_both(
-    rt: &impl Print,
-    lanes: usize,
-    mode: Mode,
-    values: &[u32],
-    size: usize,
-) -> io::Result<()> {
-    write_again(rt, lanes, mode, values, size)?;
-    write_others(rt, lanes, mode, values)
-}
-
-// What was read, written again.
-fn write_read(rt: &impl Print, lanes: usize, mode: Mode, file: &[u8]) -> io::Result<()> {
-    let mut all = marked_values();
-    let output: &mut [u32] = &mut all;
-    let read = files::read(file, output);
-    let count = read.length;
-    write_both(rt, lanes, mode, first_values(output, count), file.len())
+    let last = Mode::Strict(Initial::Number(u32::MAX));
+    print!(rt;
+        " again={} exact={} short={}",
+        write(lanes, mode, values, BYTES),
+        write(lanes, mode, values, size),
+        write(lanes, mode, values, size.saturating_sub(1))
+    )?;
+    print!(rt;
+        " two={} many={} last={}",
+        write(2, mode, values, BYTES),
+        write(lanes, Mode::Plain, &[VALUE_MARK; VALUES], BYTES),
+        write(lanes, last, values, BYTES)
+    )
 }
 
 // Where the header is one.
 pub(crate) fn show_written(rt: &impl Print, file: &[u8]) -> io::Result<()> {
-    let opened = files::header(file);
-    let refusal = opened.refusal;
-    let header = opened.header;
-    let mode = header.mode;
-    if refusal.is_accepted() {
-        write_read(rt, header.lanes as usize, mode, file)?;
-    }
-    Ok(())
+    let Ok(header) = files::header(file) else {
+        return Ok(());
+    };
+    let mut output = [VALUE_MARK; VALUES];
+    let count = files::read(file, &mut output).unwrap_or(0);
+    let values = first(&output, count);
+    write_again(rt, header.lanes as usize, header.mode, values, file.len())
 }

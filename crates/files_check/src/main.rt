@@ -4,15 +4,14 @@
 
 use calls::{show_header, show_read, show_written};
 use std::io;
-use streams::read_full;
-use tables::buffers::{marked_bytes, table_room};
+use tables::buffers::{BYTE_MARK, BYTES};
 use tables::words::{before, behind};
-use tables::{decode, line};
+use tables::{decode, for_each_line};
 
 mod calls;
 
 fn run_file(rt: &impl Print, hex: &[u8]) -> io::Result<()> {
-    let mut bytes = marked_bytes();
+    let mut bytes = [BYTE_MARK; BYTES];
     let size = decode(hex, &mut bytes);
     let file = &bytes[..size];
     show_header(rt, file)?;
@@ -24,22 +23,9 @@ fn run_file(rt: &impl Print, hex: &[u8]) -> io::Result<()> {
 fn run_line(rt: &impl Print, line: &[u8]) -> io::Result<()> {
     rt.write_all(before(b' ', line))?;
     run_file(rt, behind(b' ', line))?;
-    line::end(rt)
-}
-
-// Every line of a text.
-fn run_all(rt: &impl Print, text: &[u8]) -> io::Result<()> {
-    let mut rest = text;
-    while 0 < rest.len() {
-        run_line(rt, before(b'\n', rest))?;
-        let next = behind(b'\n', rest);
-        rest = next;
-    }
-    Ok(())
+    println!(rt)
 }
 
 fn main(rt: HostRuntime) -> io::Result<()> {
-    let mut table = table_room();
-    let size = read_full(&mut rt.stdin(), &mut table)?;
-    run_all(&rt, &table[..size])
+    for_each_line(&mut rt.stdin(), |line| run_line(&rt, line))
 }

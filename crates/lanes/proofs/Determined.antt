@@ -4,12 +4,20 @@ use Rattle.std.proofs.Common.{sym, ◌∙◌}
 use Rattle.answers.specs.Promises.{AsksNothing, AnswerDetermined}
 use Rattle.lanes.specs.Promises.{RowDetermined}
 use Rattle.lanes.proofs.Rows.{row_once}
-use Rattle.lanes.proofs.is_lanes.Reads as is_lanes
-use Rattle.lanes.proofs.is_lanes.Kinds as is_lanes_kinds
 use Rattle.lanes.proofs.most_significant_bit.Reads as most_significant_bit
 use Rattle.lanes.proofs.most_significant_bit.Kinds as most_significant_bit_kinds
-use Rattle.lanes.proofs.wide.Reads as wide
-use Rattle.lanes.proofs.wide.Kinds as wide_kinds
+use Rattle.lanes.proofs.Lanes.new.Reads as Lanes_new
+use Rattle.lanes.proofs.Lanes.new.Kinds as Lanes_new_kinds
+use Rattle.lanes.proofs.Lanes.count.Reads as count
+use Rattle.lanes.proofs.Lanes.count.Kinds as count_kinds
+use Rattle.lanes.proofs.Lanes.block_size.Reads as block_size
+use Rattle.lanes.proofs.Lanes.block_size.Kinds as block_size_kinds
+use Rattle.lanes.proofs.Lanes.payload_size.Reads as payload_size
+use Rattle.lanes.proofs.Lanes.payload_size.Kinds as payload_size_kinds
+use Rattle.lanes.proofs.Width.new.Reads as Width_new
+use Rattle.lanes.proofs.Width.new.Kinds as Width_new_kinds
+use Rattle.lanes.proofs.Width.bits.Reads as bits
+use Rattle.lanes.proofs.Width.bits.Kinds as bits_kinds
 use Rattle.lanes.proofs.scalar.set1.Reads as set1
 use Rattle.lanes.proofs.scalar.set1.Kinds as set1_kinds
 use Rattle.lanes.proofs.scalar.left_shift_32.Reads as left_shift_32
@@ -22,10 +30,6 @@ use Rattle.lanes.proofs.scalar.op_and.Reads as op_and
 use Rattle.lanes.proofs.scalar.op_and.Kinds as op_and_kinds
 use Rattle.lanes.proofs.scalar.or_collapse_to_u32.Reads as or_collapse_to_u32
 use Rattle.lanes.proofs.scalar.or_collapse_to_u32.Kinds as or_collapse_to_u32_kinds
-use Rattle.lanes.proofs.sums.wrapping_add.Reads as wrapping_add
-use Rattle.lanes.proofs.sums.wrapping_add.Kinds as wrapping_add_kinds
-use Rattle.lanes.proofs.sums.wrapping_sub.Reads as wrapping_sub
-use Rattle.lanes.proofs.sums.wrapping_sub.Kinds as wrapping_sub_kinds
 use Rattle.lanes.proofs.scalar.add.Reads as add
 use Rattle.lanes.proofs.scalar.add.Kinds as add_kinds
 use Rattle.lanes.proofs.scalar.sub.Reads as sub
@@ -35,23 +39,47 @@ use Rattle.lanes.proofs.scalar.compute_delta.Kinds as compute_delta_kinds
 use Rattle.lanes.proofs.scalar.integrate_delta.Reads as integrate_delta
 use Rattle.lanes.proofs.scalar.integrate_delta.Kinds as integrate_delta_kinds
 
-is_lanes_asks_nothing : AsksNothing is_lanes_kinds.ps is_lanes.Pre
-is_lanes_asks_nothing κs a = tt
-
-is_lanes_determined : AnswerDetermined is_lanes_kinds.ps is_lanes_kinds.r is_lanes.Post
-is_lanes_determined κs a z z' e e' p q = p ∙ sym q
-
 most_significant_bit_asks_nothing : AsksNothing most_significant_bit_kinds.ps most_significant_bit.Pre
 most_significant_bit_asks_nothing κs a = tt
 
 most_significant_bit_determined : AnswerDetermined most_significant_bit_kinds.ps most_significant_bit_kinds.r most_significant_bit.Post
 most_significant_bit_determined κs a z z' e e' p q = p ∙ sym q
 
-wide_asks_nothing : AsksNothing wide_kinds.ps wide.Pre
-wide_asks_nothing κs a = tt
+Lanes_new_asks_nothing : AsksNothing Lanes_new_kinds.ps Lanes_new.Pre
+Lanes_new_asks_nothing κs a = tt
 
-wide_determined : AnswerDetermined wide_kinds.ps wide_kinds.r wide.Post
-wide_determined κs a z z' e e' p q = p.0 ∙ sym q.0
+Lanes_new_determined : AnswerDetermined Lanes_new_kinds.ps Lanes_new_kinds.r Lanes_new.Post
+Lanes_new_determined κs a z z' e e' p q = p ∙ sym q
+
+count_asks_nothing : AsksNothing count_kinds.ps count.Pre
+count_asks_nothing κs a = tt
+
+count_determined : AnswerDetermined count_kinds.ps count_kinds.r count.Post
+count_determined κs a z z' e e' p q = p.0 ∙ sym q.0
+
+block_size_asks_nothing : AsksNothing block_size_kinds.ps block_size.Pre
+block_size_asks_nothing κs a = tt
+
+block_size_determined : AnswerDetermined block_size_kinds.ps block_size_kinds.r block_size.Post
+block_size_determined κs a z z' e e' p q = p.0 ∙ sym q.0
+
+payload_size_asks_nothing : AsksNothing payload_size_kinds.ps payload_size.Pre
+payload_size_asks_nothing κs a = tt
+
+payload_size_determined : AnswerDetermined payload_size_kinds.ps payload_size_kinds.r payload_size.Post
+payload_size_determined κs a z z' e e' p q = p.0 ∙ sym q.0
+
+Width_new_asks_nothing : AsksNothing Width_new_kinds.ps Width_new.Pre
+Width_new_asks_nothing κs a = tt
+
+Width_new_determined : AnswerDetermined Width_new_kinds.ps Width_new_kinds.r Width_new.Post
+Width_new_determined κs a z z' e e' p q = p ∙ sym q
+
+bits_asks_nothing : AsksNothing bits_kinds.ps bits.Pre
+bits_asks_nothing κs a = tt
+
+bits_determined : AnswerDetermined bits_kinds.ps bits_kinds.r bits.Post
+bits_determined κs a z z' e e' p q = p.0 ∙ sym q.0
 
 set1_asks_nothing : AsksNothing set1_kinds.ps set1.Pre
 set1_asks_nothing κs a = tt
@@ -88,18 +116,6 @@ or_collapse_to_u32_asks_nothing κs a = tt
 
 or_collapse_to_u32_determined : AnswerDetermined or_collapse_to_u32_kinds.ps or_collapse_to_u32_kinds.r or_collapse_to_u32.Post
 or_collapse_to_u32_determined κs a z z' e e' p q = p ∙ sym q
-
-wrapping_add_asks_nothing : AsksNothing wrapping_add_kinds.ps wrapping_add.Pre
-wrapping_add_asks_nothing κs a = tt
-
-wrapping_add_determined : AnswerDetermined wrapping_add_kinds.ps wrapping_add_kinds.r wrapping_add.Post
-wrapping_add_determined κs a z z' e e' p q = p ∙ sym q
-
-wrapping_sub_asks_nothing : AsksNothing wrapping_sub_kinds.ps wrapping_sub.Pre
-wrapping_sub_asks_nothing κs a = tt
-
-wrapping_sub_determined : AnswerDetermined wrapping_sub_kinds.ps wrapping_sub_kinds.r wrapping_sub.Post
-wrapping_sub_determined κs a z z' e e' p q = p ∙ sym q
 
 add_asks_nothing : AsksNothing add_kinds.ps add.Pre
 add_asks_nothing κs a = tt

@@ -1,3 +1,4 @@
 pub mod Shifts
 pub mod Rows
+pub mod Joined
 pub mod Determined

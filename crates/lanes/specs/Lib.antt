@@ -1,3 +1,4 @@
 pub mod Rows
+pub mod Sizes
 pub mod Sums
 pub mod Promises

@@ -1,41 +1,109 @@
-// How many lanes there may be, rows of numbers, one for each lane, the width of one number, and a byte as a number.
+// How many lanes there may be and how wide an entry, rows of numbers, one for each lane, and the width of one number.
 #![tactic(auto)]
 
-ghost use Rattle.std.specs.Prelude.{◌≡◌, ◌<◌};
-ghost use Rattle.layout.specs.Layout.{is_lanes};
+ghost use Rattle.std.specs.Prelude.{◌≡◌, true, ℕ, ◌+◌, ◌*◌, ◌<◌, ◌≤◌};
+ghost use Rattle.answers.specs.Answers.{answer};
+ghost use Rattle.layout.specs.Layout.{is_lanes, block_size, payload_size};
 ghost use Rattle.layout.specs.Width.{significant};
+ghost use Rattle.lanes.specs.Sizes.{lanes_refusal, width_refusal};
+
+use answers::Refusal;
+use std::marker::Model;
 
 pub mod scalar;
-pub mod sums;
 
-// Whether a block may have so many lanes: 1, 4 or 8.
-pub fn is_lanes(lanes: usize) -> bool
-    ensures { result ≡ is_lanes lanes }
-{
-    if lanes == 1 {
-        return true;
+// A number of lanes that a block may have: 1, 4 or 8.
+#[derive(Clone, Copy, Debug, PartialEq, Eq)]
+pub struct Lanes {
+    count: usize,
+}
+
+impl Model for Lanes {
+    ghost Value = { ℕ };
+
+    ghost view = { λ l. l.count };
+
+    ghost invariant = { λ l. is_lanes l.count ≡ true };
+
+    ghost inverse = { λ n. record { count = n } };
+}
+
+impl Lanes {
+    // So many lanes, or 1.
+    pub fn new(count: usize) -> Result<Lanes, Refusal>
+        ensures { result ≡ answer (lanes_refusal count) count }
+    {
+        match count {
+            1 | 4 | 8 => Ok(Lanes { count }),
+            _ => Err(Refusal::BadLanes),
+        }
     }
-    if lanes == 4 {
-        return true;
+
+    pub fn count(self) -> usize
+        ensures value { result ≡ self }
+        ensures told { is_lanes result ≡ true }
+        ensures bounds { (0 < result) × (result ≤ 8) }
+    {
+        self.count
     }
-    lanes == 8
+
+    // How many values a block has.
+    pub fn block_size(self) -> usize
+        ensures value { result ≡ block_size self }
+        ensures told { is_lanes self ≡ true }
+        ensures bounds { (0 < result) × (result ≤ 256) }
+    {
+        32 * self.count
+    }
+
+    // How many bytes the words of a payload take.
+    pub fn payload_size(self, width: Width) -> usize
+        ensures value { result ≡ payload_size self width }
+        ensures bounds { result ≤ 1024 }
+    {
+        4 * self.count * width.bits() as usize
+    }
+}
+
+// A width that an entry may have: 0 to 32.
+#[derive(Clone, Copy, Debug, PartialEq, Eq)]
+pub struct Width {
+    bits: u32,
+}
+
+impl Model for Width {
+    ghost Value = { ℕ };
+
+    ghost view = { λ w. w.bits };
+
+    ghost invariant = { λ w. w.bits ≤ 32 };
+
+    ghost inverse = { λ n. record { bits = n } };
+}
+
+impl Width {
+    // So many bits, or 2.
+    pub fn new(bits: u32) -> Result<Width, Refusal>
+        ensures { result ≡ answer (width_refusal bits) bits }
+    {
+        if bits <= 32 {
+            Ok(Width { bits })
+        } else {
+            Err(Refusal::BadWidth)
+        }
+    }
+
+    pub fn bits(self) -> u32
+        ensures value { result ≡ self }
+        ensures bounds { result ≤ 32 }
+    {
+        self.bits
+    }
 }
 
 // The width of one number: 0 for 0.
 pub fn most_significant_bit(v: u32) -> u32
     ensures { result ≡ significant v }
 {
-    if v == 0 {
-        0
-    } else {
-        32 - u32::leading_zeros(v)
-    }
-}
-
-// A byte as a number.
-pub fn wide(byte: u8) -> u32
-    ensures value { result ≡ byte }
-    ensures upper_bound { result < 256 }
-{
-    byte as u32
+    if v == 0 { 0 } else { 32 - v.leading_zeros() }
 }

@@ -121,13 +121,6 @@ fits_exactly e m n f = (
   λ h. fits_of e m n (λ k lt. lt_of_lt_of_le ((width_least e m f).fit k lt) (pow_mono h)),
 )
 
-pub fits_not : (e : ℕ → ℕ) (m n : ℕ) → Fit e m 32 → n < least_width e m → fits e m n ≡ false
-fits_not e m n f h = go (fits e m n) refl
-  where
-    go : (b : Bool) → fits e m n ≡ b → fits e m n ≡ false
-    go false q = q
-    go true q = absurd (omega (arith, (fits_exactly e m n f).0 q))
-
 -- Or-ing. x fits the same widths as e 0, .., e (m - 1) do together.
 record Joins (e : ℕ → ℕ) (m x : ℕ) : Type 0 where
   down : (n : ℕ) → x < 2 ^ n → Fit e m n

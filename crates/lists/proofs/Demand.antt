@@ -5,13 +5,12 @@ use mathlib.Core.List.{List}
 use Prim.Native.Nat.{ℕ, ◌≤◌}
 use lib.ListN.{length, take}
 use Rattle.layout.specs.Layout.{Below, is_lanes}
-use Rattle.answers.specs.Answers.{over, answer, written}
-use Rattle.answers.specs.declared.Answer.{Answer}
+use Rattle.answers.specs.Answers.{over}
 use Rattle.answers.specs.declared.Refusal.{Refusal}
-use Rattle.answers.specs.declared.Refusal.TheVariants.{Accepted}
 use Rattle.answers.specs.Refusals.{accepted}
+use Rattle.std.specs.Prelude.{Result, Ok}
 use Rattle.layout.proofs.LaneCounts.{lanes_of}
-use Rattle.answers.proofs.Refusals.{accepted_is}
+use Rattle.answers.proofs.Answers.{ok_is, answered, overwritten}
 use Rattle.answers.proofs.Fronts.{take_over}
 use Rattle.modes.specs.declared.Mode.{Mode}
 use Rattle.order.specs.Order.{starting, entries_of, values_of}
@@ -24,13 +23,6 @@ use Rattle.bodies.proofs.Whole.{Written, sound, Had, complete, blocks_enough}
 use Rattle.lists.specs.Calls.{write_refusal, write_answer, write_output, read_refusal, read_answer, read_output}
 use Rattle.lists.specs.Demand.{Holds, Reads, DemandReads, DemandWrites}
 use Rattle.lists.proofs.Accepts.{write_exactly, read_exactly}
-
--- what an accepted call answers and leaves
-accepted_answer : (k : Refusal) (size : ℕ) → accepted k ≡ true → answer k size ≡ record { refusal = Accepted; length = size }
-accepted_answer k size h = rw (accepted_is k h)
-
-accepted_output : (k : Refusal) (new before : List ℕ) → accepted k ≡ true → written k new before ≡ over new before
-accepted_output k new before h = rw h
 
 module _ (L : ℕ) (m : Mode) (lanes : is_lanes L ≡ true) where
   -- what is accepted is the body of a list of that count: of the one that is read
@@ -76,20 +68,20 @@ module _ (L : ℕ) (m : Mode) (lanes : is_lanes L ≡ true) where
   reads count bs before bytes enough =
       let k = read_refusal L m count bs (length before) in
       record {
-        exactly = ((λ h. (list_of L m count bs, list_read count (length before) bs bytes (ap accepted h))), λ x. accepted_is k (body_accepted x.1 (length before) enough));
+        exactly = ((λ h. (list_of L m count bs, list_read count (length before) bs bytes (sym (ok_is k count) ∙ h))), λ x. ok_is k count ∙ body_accepted x.1 (length before) enough);
         only = λ vs ws a b. sym (list_back a) ∙ list_back b;
         returns =
             λ vs h.
             let ok = body_accepted h (length before) enough in
-            (ap (λ (a : Answer). a.length) (accepted_answer k count ok), accepted_output k (list_of L m count bs) before ok ∙ ap (λ (t : List ℕ). over t before) (list_back h));
+            (answered k count ok, overwritten k (list_of L m count bs) before ok ∙ ap (λ (t : List ℕ). over t before) (list_back h));
       }
 
   -- writing
   pub writes : (count : ℕ) (vs before : List ℕ) → IsList m count vs → length (body_of L m vs) ≤ length before
-      → (write_answer L m vs (length before) ≡ record { refusal = Accepted; length = length (body_of L m vs) }) × (write_output L m vs before ≡ over (body_of L m vs) before)
+      → (write_answer L m vs (length before) ≡ Ok (length (body_of L m vs))) × (write_output L m vs before ≡ over (body_of L m vs) before)
   writes count vs before l enough =
       let ok : accepted (write_refusal L m vs (length before)) ≡ true = (write_exactly L m vs (length before)).1 (record { list = record { lanes = lanes; few = rw l.size l.few; order = l.order }; enough = enough }) in
-      (accepted_answer (write_refusal L m vs (length before)) (length (body_of L m vs)) ok, accepted_output (write_refusal L m vs (length before)) (body_of L m vs) before ok)
+      (answered (write_refusal L m vs (length before)) (length (body_of L m vs)) ok, overwritten (write_refusal L m vs (length before)) (body_of L m vs) before ok)
 
   -- two lists of one count with one body are equal
   pub one_list : (count : ℕ) (vs ws : List ℕ) → IsList m count vs → IsList m count ws → body_of L m vs ≡ body_of L m ws → vs ≡ ws
@@ -103,14 +95,14 @@ module _ (L : ℕ) (m : Mode) (lanes : is_lanes L ≡ true) where
       ap (take (length (body_of L m vs))) (writes count vs before l enough).1 ∙ take_over (length (body_of L m vs)) (body_of L m vs) before refl in
       let h : Holds L m count (body_of L m vs) vs = record { list = l; body = refl } in
       ap (λ (t : List ℕ). read_output L m count t out) wrote
-      ∙ accepted_output (read_refusal L m count (body_of L m vs) (length out)) (list_of L m count (body_of L m vs)) out (body_accepted h (length out) room) ∙ ap (λ (t : List ℕ). over t out) (list_back h)
+      ∙ overwritten (read_refusal L m count (body_of L m vs) (length out)) (list_of L m count (body_of L m vs)) out (body_accepted h (length out) room) ∙ ap (λ (t : List ℕ). over t out) (list_back h)
 
 -- what the call answers and leaves is as it is demanded
-pub demand_reads : (L : ℕ) (m : Mode) (count : ℕ) (bs before : List ℕ) {r : Answer} {after : List ℕ} → Below 256 bs → r ≡ read_answer L m count bs (length before) → after ≡ read_output L m count bs before
+pub demand_reads : (L : ℕ) (m : Mode) (count : ℕ) (bs before : List ℕ) {r : Result ℕ Refusal} {after : List ℕ} → Below 256 bs → r ≡ read_answer L m count bs (length before) → after ≡ read_output L m count bs before
     → DemandReads L m count bs before r after
 demand_reads L m count bs before bytes p q lanes enough = rw (p, q) (reads L m lanes count bs before bytes enough)
 
-pub demand_writes : (L : ℕ) (m : Mode) (vs before : List ℕ) {r : Answer} {after : List ℕ} → r ≡ write_answer L m vs (length before) → after ≡ write_output L m vs before → DemandWrites L m vs before r after
+pub demand_writes : (L : ℕ) (m : Mode) (vs before : List ℕ) {r : Result ℕ Refusal} {after : List ℕ} → r ≡ write_answer L m vs (length before) → after ≡ write_output L m vs before → DemandWrites L m vs before r after
 demand_writes L m vs before p q lanes l enough =
     let w = writes L m lanes (length vs) vs before l enough in
     (p ∙ w.0, q ∙ w.1)

@@ -12,7 +12,7 @@ use Rattle.layout.specs.Layout.{at, block_size, payload_size}
 use Rattle.answers.specs.Answers.{over}
 use Rattle.answers.specs.Refusals.{accepted}
 use Rattle.answers.proofs.Refusals.{both}
-use Rattle.answers.proofs.Fronts.{Front, front_none, front_length, front_part, take_over}
+use Rattle.answers.proofs.Fronts.{Front, front_none, front_length, front_part}
 use Rattle.answers.proofs.Parts.{part_is}
 use Rattle.layout.proofs.Tables.{length_table, take_table}
 use Rattle.modes.specs.Entries.{values}
@@ -47,10 +47,12 @@ module _ (L : ℕ) (m : Mode) (bs : List ℕ) where
       let v : at out (block_size L - 1) ≡ at vs (length vs - 1) = ap (λ (t : List ℕ). at t (block_size L - 1)) e ∙ get_or-append vs _ 0 (block_size L - 1) (omega arith) ∙ ap (λ (t : ℕ). at vs (t - 1)) (sym len) in
       ap (after m) v ∙ sym (after_end m vs (omega arith))
 
-  -- unpacked into a block of the reader's own
-  pub own_block : (k : ℕ) (zs own : List ℕ) → k ≤ block_size L → own ≡ over (values_at L m (block_size L) bs) zs → take k own ≡ values_at L m k bs
-  own_block k zs own h e =
-      sym (take-take k (block_size L) own h) ∙ ap (take k) (ap (take (block_size L)) e ∙ take_over (block_size L) (values_at L m (block_size L) bs) zs (length_at (block_size L))) ∙ first_values k h
+  -- its first k values, copied out of a block of the reader's own
+  pub copied : (k : ℕ) (own front values : List ℕ) → k ≤ block_size L → take (block_size L) own ≡ values_at L m (block_size L) bs → front ≡ take k own
+      → front ++ drop k values ≡ over (values_at L m k bs) values
+  copied k own front values h e is =
+      let first : take k own ≡ values_at L m k bs = sym (take-take k (block_size L) own h) ∙ ap (take k) e ∙ first_values k h in
+      rw (is, first, length_at k) refl
 
 -- a run of blocks
 

@@ -2,14 +2,14 @@
 use mathlib.Core.Path.{◌≡◌, refl, sym, ◌∙◌, ap}
 use mathlib.Core.Bool.{true}
 use mathlib.Core.List.{List, [], ◌∷◌, ◌++◌, append_assoc, append-nil}
-use Prim.Native.Nat.{ℕ, zero, suc, ◌+◌, ◌-◌, ◌%◌, ◌^◌, ◌≤◌, ◌<◌, min}
-use native.Mathlib.Nat.{min-eq_left, min-eq_right, mod-eq_of_lt}
+use Prim.Native.Nat.{ℕ, zero, suc, ◌+◌, ◌-◌, ◌^◌, ◌≤◌, ◌<◌, min}
 use native.Mathlib.Numerals.{one-add}
 use native.Mathlib.Omega.{arith}
 use native.Mathlib.Decide.{dec_lt}
-use lib.ListN.{length, set, take, drop, replicate, length-append, length-drop, length-take, length-set, drop_of_length-le, get_or-append, get_or-eq_default}
-use lib.Seq.{take_all, get_or-take, get_or-drop, get_or-append-add, drop-drop, length-take-le}
+use lib.ListN.{length, set, take, drop, replicate, length-append, length-set, get_or-append, get_or-eq_default}
+use lib.Seq.{take_all, get_or-take, get_or-drop, get_or-append-add, length-take-le}
 use borrow.Rule.Slice.PartMut.{mid_of, put_mid}
+use Rattle.layout.specs.Width.{fits}
 use Rattle.layout.specs.Layout.{at, Below, block_size, payload_size, packed, is_lanes}
 use Rattle.answers.specs.Answers.{over}
 use Rattle.layout.proofs.LaneCounts.{lanes_of}
@@ -21,14 +21,17 @@ use Rattle.layout.proofs.Widths.{fits_of, width_least, width_small, width_ext}
 use Rattle.layout.specs.Claims.{Fit}
 use Rattle.modes.specs.declared.Mode.{Mode}
 use Rattle.modes.specs.declared.Mode.TheVariants.{Plain}
-use Rattle.blocks.specs.declared.Width.{Width}
-use Rattle.blocks.specs.Calls.{pack_output, width_answer}
+use Rattle.std.specs.Prelude.{Result, Ok}
+use Rattle.answers.specs.declared.Refusal.{Refusal}
+use Rattle.answers.proofs.Answers.{ok_same}
+use Rattle.blocks.specs.Calls.{size_answer, pack_answer, pack_output, width_answer}
 use Rattle.order.specs.Order.{after, after_all, next_entry, entries_of}
 use Rattle.order.proofs.Steps.{length_entries, entries_small}
-use Rattle.order.proofs.Going.{after_more, after_end, entries_more}
+use Rattle.order.proofs.Going.{after_more, entries_more}
 use Rattle.bodies.specs.Body.{filled, width_of, block, body_of}
 use Rattle.bodies.proofs.Onward.{body_none, body_next}
-use Rattle.lists.proofs.BlockCalls.{width_is, pack_is}
+use Rattle.bodies.proofs.Whole.{empty, front}
+use Rattle.lists.proofs.BlockCalls.{size_is, width_is, pack_ok, pack_is}
 
 -- the entries of the first i values stand at the front of `out`
 pub record Filling (m₀ : Mode) (vs zs : List ℕ) (m : Mode) (i : ℕ) (out : List ℕ) : Type 0 where
@@ -91,38 +94,75 @@ module _ {L : ℕ} {es own : List ℕ} (o : Own L es own) where
   fit : Fit (filled es) (block_size L) 32
   fit k h = o.small k
 
-  length_block : length (block L es) ≡ 1 + payload_size L (width_of L es)
+  pub length_block : length (block L es) ≡ 1 + payload_size L (width_of L es)
   unfolding block
   length_block = rw (length_packed, one-add)
 
-  module _ {r : Width} (told : r ≡ width_answer L Plain (take (block_size L) own)) where
-    pub width_of_lem : r.width ≡ width_of L es
-    width_of_lem = width_is L o.lanes (take (block_size L) own) block_length told ∙ width_ext fit block_at
+  -- what is asked for its width, and then for its payload, by way of `own`
+  pub width_told : width_answer L Plain (take (block_size L) own) ≡ Ok (width_of L es)
+  width_told = width_is L o.lanes (take (block_size L) own) block_length ∙ ap Ok (width_ext fit block_at)
 
-    pub width_narrow : r.width ≤ 32
-    width_narrow = rw width_of_lem (width_small (filled es) (block_size L) fit)
+  pub width_narrow : width_of L es ≤ 32
+  width_narrow = width_small (filled es) (block_size L) fit
 
-    pub length_of : {n : ℕ} → n ≡ 1 + payload_size L r.width → n ≡ length (block L es)
-    length_of e = e ∙ rw width_of_lem (sym length_block)
+  pub size_told : size_answer L (width_of L es) ≡ Ok (payload_size L (width_of L es))
+  size_told = size_is L o.lanes (width_of L es) width_narrow
+
+  module _ (out : List ℕ) (room : length (block L es) ≤ length out) where
+    abbrev first : List ℕ
+    first = set out 0 (width_of L es)
+
+    abbrev pub behind : List ℕ
+    behind = mid_of 1 (length (set out 0 (width_of L es)) - 1) (set out 0 (width_of L es))
+
+    wide : payload_size L (width_of L es) ≤ length behind
+    wide = rw (part_length 1 first, length-set) (omega (arith, length_block, room))
+
+    own_fits : fits (at (take (block_size L) own)) (block_size L) (width_of L es) ≡ true
+    own_fits = fits_of (at (take (block_size L) own)) (block_size L) (width_of L es) (λ k h. rw (← block_at k h) ((width_least (filled es) (block_size L) fit).fit k h))
+
+    pub pack_told : pack_answer L Plain (take (block_size L) own) (length behind) (width_of L es) ≡ Ok (payload_size L (width_of L es))
+    pack_told = pack_ok L o.lanes (take (block_size L) own) behind (width_of L es) block_length width_narrow wide own_fits
 
     -- its width at the front of `out`, and its payload packed into the part behind that
-    pub store_is : (out ys : List ℕ) → length (block L es) ≤ length out
-        → ys ≡ pack_output L Plain (take (block_size L) own) (mid_of 1 (length (set out 0 (r.width % 256)) - 1) (set out 0 (r.width % 256))) r.width
-        → put_mid 1 (length (set out 0 (r.width % 256)) - 1) (set out 0 (r.width % 256)) ys ≡ over (block L es) out
+    pub store_is : (ys : List ℕ) → ys ≡ pack_output L Plain (take (block_size L) own) behind (width_of L es) → put_mid 1 (length first - 1) first ys ≡ over (block L es) out
     unfolding block
-    store_is out ys room came =
-        let n : ℕ = r.width in
-        let room' : 1 + payload_size L (width_of L es) ≤ length out = omega (arith, length_block, room) in
-        let b : n % 256 ≡ n = mod-eq_of_lt (omega (arith, width_narrow)) in
-        let first : Front (n % 256 ∷ []) out (set out 0 (n % 256)) = front_put (front_none out) 0 refl (n % 256) (omega arith) in
-        let rest : List ℕ = mid_of 1 (length (set out 0 (n % 256)) - 1) (set out 0 (n % 256)) in
-        let wide : payload_size L n ≤ length rest = rw (part_length 1 (set out 0 (n % 256)), length-set, width_of_lem) (omega arith) in
-        let packs : ys ≡ over (packed L n (filled es)) rest =
-        came ∙ pack_is L o.lanes (take (block_size L) own) rest n block_length width_narrow wide
-        (fits_of (at (take (block_size L) own)) (block_size L) n (λ k h. rw (← block_at k h, width_of_lem) ((width_least (filled es) (block_size L) fit).fit k h)))
-        ∙ ap (λ (t : List ℕ). over t rest) (packed_ext L n (at (take (block_size L) own)) (filled es) (λ k h. sym (block_at k h))) in
-        let e : (n % 256 ∷ []) ++ packed L n (filled es) ≡ block L es = rw (b, width_of_lem) in
-        (front_part first 1 refl (packed L n (filled es)) ys (rw (length_packed, width_of_lem) (omega arith)) packs).here ∙ ap (λ (t : List ℕ). over t out) e
+    store_is ys came =
+        let n : ℕ = width_of L es in
+        let room' : 1 + payload_size L n ≤ length out = omega (arith, length_block, room) in
+        let one : Front (n ∷ []) out first = front_put (front_none out) 0 refl n (omega arith) in
+        let packs : ys ≡ over (packed L n (filled es)) behind =
+        came ∙ pack_is L o.lanes (take (block_size L) own) behind n block_length width_narrow wide own_fits
+        ∙ ap (λ (t : List ℕ). over t behind) (packed_ext L n (at (take (block_size L) own)) (filled es) (λ k h. sym (block_at k h))) in
+        (front_part one 1 refl (packed L n (filled es)) ys (rw length_packed (omega arith)) packs).here
+
+  -- the width n that was found
+  module _ {r : Result ℕ Refusal} {n : ℕ} (told : r ≡ width_answer L Plain (take (block_size L) own)) (ok : r ≡ Ok n) where
+    pub width_found : n ≡ width_of L es
+    width_found = ok_same ok (told ∙ width_told)
+
+    pub narrow_found : n ≤ 32
+    narrow_found = rw width_found width_narrow
+
+    module _ {q : Result ℕ Refusal} (asked : q ≡ size_answer L n) where
+      pub size_found : q ≡ Ok (payload_size L (width_of L es))
+      size_found = asked ∙ rw width_found size_told
+
+      pub length_found : {m : ℕ} → q ≡ Ok m → 1 + m ≡ length (block L es)
+      length_found is = ap (λ (t : ℕ). 1 + t) (ok_same is size_found) ∙ sym length_block
+
+    module _ (out : List ℕ) (room : length (block L es) ≤ length out) where
+      pub pack_found : {q : Result ℕ Refusal} → q ≡ pack_answer L Plain (take (block_size L) own) (length (mid_of 1 (length (set out 0 n) - 1) (set out 0 n))) n
+          → q ≡ Ok (payload_size L (width_of L es))
+      pack_found asked = asked ∙ rw width_found (pack_told out room)
+
+      pub packed_found : {q : Result ℕ Refusal} {m : ℕ} → q ≡ pack_answer L Plain (take (block_size L) own) (length (mid_of 1 (length (set out 0 n) - 1) (set out 0 n))) n
+          → q ≡ Ok m → 1 + m ≡ length (block L es)
+      packed_found asked is = ap (λ (t : ℕ). 1 + t) (ok_same is (pack_found asked)) ∙ sym length_block
+
+      pub store_found : (ys : List ℕ) → ys ≡ pack_output L Plain (take (block_size L) own) (mid_of 1 (length (set out 0 n) - 1) (set out 0 n)) n
+          → put_mid 1 (length (set out 0 n) - 1) (set out 0 n) ys ≡ over (block L es) out
+      store_found ys came = rw width_found (store_is out room ys (rw width_found at came))
 
 -- a block has its width byte at least
 pub some_room : (L : ℕ) (es : List ℕ) {room : ℕ} → length (block L es) ≤ room → 1 ≤ room
@@ -131,90 +171,62 @@ some_room L es h = omega arith
 
 -- a run of blocks
 
-drop_min : (n : ℕ) (xs : List ℕ) → drop n xs ≡ drop (min n (length xs)) xs
-drop_min n xs = go (dec_lt (length xs) n)
-  where
-    go : Dec (length xs < n) → drop n xs ≡ drop (min n (length xs)) xs
-    go (yes lt) = rw (min-eq_right {n = length xs} {m = n} (omega arith)) (drop_of_length-le xs {i = n} (omega arith) ∙ sym (drop_of_length-le xs {i = length xs} (omega arith)))
-    go (no ge) = rw (min-eq_left {n = n} {m = length xs} (omega arith))
+-- the first chunk of n of what is left, and what is left behind it
+pub first_chunk : (n : ℕ) (rest x behind : List ℕ) → rest ≡ x ++ behind → length x ≡ min n (length rest) → (x ≡ take n rest) × (behind ≡ drop n rest)
+first_chunk n rest x behind e size =
+    let f = front n x behind (length rest) size (omega (arith, ap length e, length-append x behind)) in
+    (sym (ap (take n) e ∙ f.0), sym (ap (drop n) e ∙ f.1))
 
-take_min : (n : ℕ) (xs : List ℕ) → take n xs ≡ take (min n (length xs)) xs
-take_min n xs = go (dec_lt (length xs) n)
-  where
-    go : Dec (length xs < n) → take n xs ≡ take (min n (length xs)) xs
-    go (yes lt) = rw (min-eq_right {n = length xs} {m = n} (omega arith)) (take_all n xs (omega arith) ∙ sym (take_all (length xs) xs (omega arith)))
-    go (no ge) = rw (min-eq_left {n = n} {m = length xs} (omega arith))
+-- no value left is none
+pub none_left : (rest : List ℕ) → length rest ≡ 0 → rest ≡ []
+none_left rest e = empty rest (omega arith)
 
--- the blocks of the values before `place` are `so_far`, of length `done`
-pub record Stored (L : ℕ) (m₀ : Mode) (vs : List ℕ) (m : Mode) (place done : ℕ) : Type 0 where
-  pub within : place ≤ length vs
+-- the blocks of the values before `rest` are `so_far`, of length `done`
+pub record Stored (L : ℕ) (m₀ : Mode) (vs : List ℕ) (m : Mode) (rest : List ℕ) (done : ℕ) : Type 0 where
   pub so_far : List ℕ
   pub far : length so_far ≡ done
-  pub body : body_of L m₀ vs ≡ so_far ++ body_of L m (drop place vs)
+  pub body : body_of L m₀ vs ≡ so_far ++ body_of L m rest
 
-pub stored_none : (L : ℕ) (m : Mode) (vs : List ℕ) → Stored L m vs m 0 0
-stored_none L m vs = record { within = omega arith; so_far = []; far = refl; body = refl }
+pub stored_none : (L : ℕ) (m : Mode) (vs : List ℕ) → Stored L m vs m vs 0
+stored_none L m vs = record { so_far = []; far = refl; body = refl }
 
-module _ {L : ℕ} {m₀ : Mode} {vs : List ℕ} {m : Mode} {place done : ℕ} (s : Stored L m₀ vs m place done) (lanes : 0 < L) where
-  pub stored_all : length vs ≤ place → body_of L m₀ vs ≡ s.so_far
+module _ {L : ℕ} {m₀ : Mode} {vs : List ℕ} {m : Mode} {rest : List ℕ} {done : ℕ} (s : Stored L m₀ vs m rest done) (lanes : 0 < L) where
+  pub stored_all : rest ≡ [] → body_of L m₀ vs ≡ s.so_far
   stored_all h =
-      let z : body_of L m (drop place vs) ≡ [] = body_none L lanes m (drop place vs) (length-drop place vs ∙ omega arith) in
+      let z : body_of L m rest ≡ [] = body_none L lanes m rest (ap length h) in
       s.body ∙ rw z (append-nil s.so_far)
 
-  module _ (lt : place < length vs) (k : ℕ) (is : k ≡ min (block_size L) (length vs - place)) where
-    -- the values of the next block, as the part `&values[place..place + k]`
-    abbrev pub part : List ℕ
-    part = take (place + k - place) (drop place vs)
+  -- the values of the next block, and those behind it
+  module _ (some : 0 < length rest) where
+    abbrev part : List ℕ
+    part = take (block_size L) rest
 
-    part_same : part ≡ take (block_size L) (drop place vs)
-    part_same =
-        let q : place + k - place ≡ min (block_size L) (length (drop place vs)) = rw length-drop (omega arith) in
-        ap (λ (t : ℕ). take t (drop place vs)) q ∙ sym (take_min (block_size L) (drop place vs))
-
-    pub length_part : length part ≡ k
-    length_part = ap length part_same ∙ length-take (block_size L) (drop place vs) ∙ rw (length-drop, ← is)
-
-    pub mode_next : after_all m part ≡ after m (at vs (place + k - 1))
-    mode_next =
-        let q : place + (k - 1) ≡ place + k - 1 = omega arith in
-        let e : at part (length part - 1) ≡ at vs (place + k - 1) =
-        ap (λ (t : ℕ). at part (t - 1)) length_part ∙ get_or-take (place + k - place) (drop place vs) (k - 1) 0 (omega arith) ∙ get_or-drop place vs (k - 1) 0 ∙ ap (at vs) q in
-        after_end m part (omega (arith, length_part)) ∙ ap (after m) e
-
-    next_body : body_of L m (drop place vs) ≡ block L (entries_of m part) ++ body_of L (after m (at vs (place + k - 1))) (drop (place + k) vs)
-    next_body =
-        let rest : drop (block_size L) (drop place vs) ≡ drop (place + k) vs = drop_min (block_size L) (drop place vs) ∙ rw (length-drop, ← is) (drop-drop k place vs) in
-        let here : body_of L m (drop place vs) ≡ block L (entries_of m part) ++ body_of L (after_all m part) (drop (block_size L) (drop place vs)) =
-        rw part_same (body_next L lanes m (drop place vs) (rw length-drop (omega arith))) in
-        here ∙ rw (mode_next, rest)
-
-    whole : body_of L m₀ vs ≡ (s.so_far ++ block L (entries_of m part)) ++ body_of L (after m (at vs (place + k - 1))) (drop (place + k) vs)
-    whole = s.body ∙ ap (λ (t : List ℕ). s.so_far ++ t) next_body ∙ sym (append_assoc s.so_far (block L (entries_of m part)) _)
+    whole : body_of L m₀ vs ≡ (s.so_far ++ block L (entries_of m part)) ++ body_of L (after_all m part) (drop (block_size L) rest)
+    whole = s.body ∙ ap (λ (t : List ℕ). s.so_far ++ t) (body_next L lanes m rest some) ∙ sym (append_assoc s.so_far (block L (entries_of m part)) _)
 
     -- the next block does not pass the body's end
     pub block_within : done + length (block L (entries_of m part)) ≤ length (body_of L m₀ vs)
     block_within =
-        omega (arith, s.far, length-append s.so_far (block L (entries_of m part)), ap length whole, length-append (s.so_far ++ block L (entries_of m part)) (body_of L (after m (at vs (place + k - 1))) (drop (place + k) vs)))
+        omega (arith, s.far, length-append s.so_far (block L (entries_of m part)), ap length whole, length-append (s.so_far ++ block L (entries_of m part)) (body_of L (after_all m part) (drop (block_size L) rest)))
 
-    pub stored_more : (size : ℕ) (to : Mode) → size ≡ length (block L (entries_of m part)) → to ≡ after m (at vs (place + k - 1)) → Stored L m₀ vs to (place + k) (done + size)
-    stored_more size to sized moved =
+    pub stored_more : Stored L m₀ vs (after_all m part) (drop (block_size L) rest) (done + length (block L (entries_of m part)))
+    stored_more =
         record {
-          within = omega arith;
           so_far = s.so_far ++ block L (entries_of m part);
-          far = length-append s.so_far (block L (entries_of m part)) ∙ rw (s.far, sized);
-          body = rw moved whole;
+          far = length-append s.so_far (block L (entries_of m part)) ∙ rw s.far;
+          body = whole;
         }
 
 -- and they stand at the front of `out`
-pub record Storing (L : ℕ) (m₀ : Mode) (vs before : List ℕ) (m : Mode) (place done : ℕ) (out : List ℕ) : Type 0 where
-  pub run : Stored L m₀ vs m place done
+pub record Storing (L : ℕ) (m₀ : Mode) (vs before : List ℕ) (m : Mode) (rest : List ℕ) (done : ℕ) (out : List ℕ) : Type 0 where
+  pub run : Stored L m₀ vs m rest done
   pub here : Front run.so_far before out
 
-pub storing_none : (L : ℕ) (m : Mode) (vs before : List ℕ) → Storing L m vs before m 0 0 before
+pub storing_none : (L : ℕ) (m : Mode) (vs before : List ℕ) → Storing L m vs before m vs 0 before
 unfolding stored_none
 storing_none L m vs before = record { run = stored_none L m vs; here = front_none before }
 
-module _ {L : ℕ} {m₀ : Mode} {vs before : List ℕ} {m : Mode} {place done : ℕ} {out : List ℕ} (s : Storing L m₀ vs before m place done out) where
+module _ {L : ℕ} {m₀ : Mode} {vs before : List ℕ} {m : Mode} {rest : List ℕ} {done : ℕ} {out : List ℕ} (s : Storing L m₀ vs before m rest done out) where
   pub storing_length : length out ≡ length before
   storing_length = front_length s.here done s.run.far
 
@@ -222,21 +234,20 @@ module _ {L : ℕ} {m₀ : Mode} {vs before : List ℕ} {m : Mode} {place done :
   storing_within = omega (arith, storing_length, s.here.fits, s.run.far)
 
   module _ (lanes : 0 < L) (room : length (body_of L m₀ vs) ≤ length before) where
-    pub storing_all : length vs ≤ place → (done ≡ length (body_of L m₀ vs)) × (out ≡ over (body_of L m₀ vs) before)
+    pub storing_all : rest ≡ [] → (done ≡ length (body_of L m₀ vs)) × (out ≡ over (body_of L m₀ vs) before)
     storing_all h =
         let e : body_of L m₀ vs ≡ s.run.so_far = stored_all s.run lanes h in
         rw e (sym s.run.far, s.here.here)
 
-    module _ (lt : place < length vs) (k : ℕ) (is : k ≡ min (block_size L) (length vs - place)) where
-      pub block_room : length (block L (entries_of m (part s.run lanes lt k is))) ≤ length (mid_of done (length out - done) out)
-      block_room = rw (part_length done out) (omega (arith, storing_length, block_within s.run lanes lt k is))
+    module _ (some : 0 < length rest) where
+      pub block_room : length (block L (entries_of m (take (block_size L) rest))) ≤ length (mid_of done (length out - done) out)
+      block_room = rw (part_length done out) (omega (arith, storing_length, block_within s.run lanes some))
 
-      pub storing_more : (size : ℕ) (to : Mode) (ys : List ℕ) → size ≡ length (block L (entries_of m (part s.run lanes lt k is))) → to ≡ after m (at vs (place + k - 1))
-          → ys ≡ over (block L (entries_of m (part s.run lanes lt k is))) (mid_of done (length out - done) out)
-          → Storing L m₀ vs before to (place + k) (done + size) (put_mid done (length out - done) out ys)
+      pub storing_more : (ys : List ℕ) → ys ≡ over (block L (entries_of m (take (block_size L) rest))) (mid_of done (length out - done) out)
+          → Storing L m₀ vs before (after_all m (take (block_size L) rest)) (drop (block_size L) rest) (done + length (block L (entries_of m (take (block_size L) rest)))) (put_mid done (length out - done) out ys)
       unfolding stored_more
-      storing_more size to ys sized moved came =
+      storing_more ys came =
           record {
-            run = stored_more s.run lanes lt k is size to sized moved;
-            here = front_part s.here done s.run.far _ ys (omega (arith, block_within s.run lanes lt k is)) came;
+            run = stored_more s.run lanes some;
+            here = front_part s.here done s.run.far _ ys (omega (arith, block_within s.run lanes some)) came;
           }

@@ -2,40 +2,60 @@
 use mathlib.Core.Path.{◌≡◌, refl, sym, ◌∙◌, ap}
 use mathlib.Core.Bool.{Bool, true, false}
 use mathlib.Core.List.{List}
-use Prim.Native.Nat.{ℕ, ◌+◌, ◌-◌, ◌≤◌, ◌<◌, min}
-use native.Mathlib.Nat.{lt_of_lt_of_le, zero-add, add-zero}
+use Prim.Native.Nat.{ℕ, suc, ◌+◌, ◌-◌, ◌≤◌, ◌<◌, min}
+use native.Mathlib.Nat.{lt_of_lt_of_le, zero-add, add-zero, sub-zero}
 use native.Mathlib.Omega.{arith}
 use lib.ListN.{length, take, drop, length-drop}
 use lib.Pow.{pow_mono}
 use lib.Seq.{take-take, drop-drop}
 use borrow.Rule.Slice.PartMut.{mid_of}
-use Rattle.layout.specs.Layout.{at, block_size, payload_size, table}
+use Rattle.layout.specs.Layout.{at, block_size, table}
 use Rattle.layout.specs.Width.{fits, least_width}
 use Rattle.layout.proofs.Tables.{table_at, take_table}
 use Rattle.layout.proofs.RoundTrip.{entry_fits}
-use Rattle.layout.proofs.Widths.{fits_ext, width_ext}
+use Rattle.layout.proofs.Widths.{fits_ext, fits_of, of_fits, width_ext}
 use Rattle.modes.specs.declared.Mode.{Mode}
 use Rattle.answers.specs.declared.Refusal.{Refusal}
-use Rattle.answers.specs.declared.Refusal.TheVariants.{Accepted, OutOfOrder}
-use Rattle.answers.specs.Refusals.{accepted}
-use Rattle.answers.proofs.Refusals.{first_stops, first_passes}
+use Rattle.answers.specs.Refusals.{Tested, accept, accepted}
+use Rattle.answers.specs.Answers.{answer}
+use Rattle.answers.proofs.Answers.{refuses, passes}
+use Rattle.std.specs.Prelude.{Result, Ok, Err, ◌↔◌, IsTrue, All, is_err}
+use Rattle.std.proofs.lemmas.Grind.{get_or_default_zero}  -- moves a read of a list of numbers to the default 0, which clauses write
+use Rattle.answers.proofs.Refusals.{apart, erred, not_erred}
 use Rattle.answers.proofs.Parts.{part_is, part_at, part_length}
-use Rattle.order.specs.declared.Course.{Course}
-use Rattle.order.specs.Order.{after_all, ordered, values_of, course}
-use Rattle.bodies.specs.Reading.{width_at, size_at, entry_at, entries_at, values_at, frame_refusal, block_refusal, end_refusal}
+use Rattle.order.specs.Order.{after_all, values_of, course}
+use Rattle.bodies.specs.Reading.{width_at, size_at, entry_at, entries_at, values_at, refuse_values, frame_refusal, block_refusal, end_refusal}
 use Rattle.bodies.specs.declared.Stop.{Stop}
-use Rattle.bodies.specs.Stops.{nothing, block_stop, past, body_stop}
+use Rattle.bodies.specs.Stops.{nothing, block_stop, past, stop_from}
 use Rattle.bodies.proofs.Tests.{Framed, framed, block_passed}
-use Rattle.bodies.proofs.Stops.{taking, block_taken, block_refused, block_refusal_lem, stop_none, stop_here, stop_next, past_past}
+use Rattle.bodies.proofs.Stops.{taking, block_taken, block_refused, block_refusal_lem, stop_taken, stop_refused, past_past}
 use Rattle.lists.specs.kernel.Steps.{entries_refusal, shape_refusal}
 use Rattle.lists.proofs.BlockParts.{block_parts}
 
+-- to be all 0 is to fit width 0
+zeros_tell : {b : Bool} (xs : List ℕ) → (IsTrue b ↔ All (λ x. x ≡ 0) xs) → b ≡ fits (at xs) (length xs) 0
+zeros_tell {b} xs h = go b h (fits (at xs) (length xs) 0) refl
+  where
+    all : fits (at xs) (length xs) 0 ≡ true → All (λ x. x ≡ 0) xs
+    all e k d lt = let z = of_fits (at xs) (length xs) 0 e k lt in get_or_default_zero xs k d lt ∙ omega arith
+
+    go : (b : Bool) → (IsTrue b ↔ All (λ x. x ≡ 0) xs) → (f : Bool) → fits (at xs) (length xs) 0 ≡ f → b ≡ f
+    go true h true e = refl
+    go false h false e = refl
+    go false h true e = absurd (apart (sym (h.1 (all e))))
+    go true h false e = absurd (apart (sym (fits_of (at xs) (length xs) 0 (λ k lt. rw (h.0 refl k 0 lt) (omega arith))) ∙ e))
+
 -- the filling, as the part behind the list's own entries
-pub fill_part : (L k : ℕ) (es : List ℕ) → length es ≡ block_size L
+fill_part : (L k : ℕ) (es : List ℕ) → length es ≡ block_size L
     → fits (at (mid_of k (length es - k) es)) (length (mid_of k (length es - k) es)) 0 ≡ fits (λ i. at es (k + i)) (block_size L - k) 0
 fill_part L k es size =
     let len : length (mid_of k (length es - k) es) ≡ block_size L - k = part_length k es ∙ ap (λ (t : ℕ). t - k) size in
     rw len (fits_ext (at (mid_of k (length es - k) es)) (λ i. at es (k + i)) (block_size L - k) 0 (λ i h. part_at k es i))
+
+-- what is told of the filling
+pub fill_told : (L k : ℕ) (es : List ℕ) → length es ≡ block_size L → {b : Bool} → (IsTrue b ↔ All (λ x. x ≡ 0) (mid_of k (length es - k) es))
+    → b ≡ fits (λ i. at es (k + i)) (block_size L - k) 0
+fill_told L k es size h = zeros_tell (mid_of k (length es - k) es) h ∙ fill_part L k es size
 
 -- the entries es that the block bs was unpacked to
 module _ (L k : ℕ) (bs es : List ℕ) (small : k ≤ block_size L) (is : take (block_size L) es ≡ table (entry_at L bs) (block_size L)) where
@@ -51,105 +71,104 @@ module _ (L k : ℕ) (bs es : List ℕ) (small : k ≤ block_size L) (is : take 
       width_ext (λ i h. lt_of_lt_of_le (entry_fits L (width_at bs) (drop 1 bs) i) (pow_mono f.narrow)) (λ i h. sym (same i h)) in
       rw (fill, least)
 
--- the ways out of a block
-module _ (L : ℕ) (m : Mode) (left : ℕ) (bs : List ℕ) where
-  refused : {r : Refusal} {s : Stop} → s ≡ nothing r left m → r ≡ block_refusal L m (min (block_size L) left) bs → accepted r ≡ false → s ≡ block_stop L m left bs
-  refused is e h = is ∙ ap (λ (k : Refusal). nothing k left m) e ∙ sym (block_refused L m left bs (ap accepted (sym e) ∙ h))
-
-  pub no_frame : {r : Refusal} {s : Stop} → s ≡ nothing r left m → r ≡ frame_refusal L bs → accepted r ≡ false → s ≡ block_stop L m left bs
+-- the ways out of a block, of which the first k values are the list's
+module _ (L : ℕ) (m : Mode) (k : ℕ) (bs : List ℕ) where
+  pub no_frame : {j : Refusal} → answer (frame_refusal L bs) (width_at bs) ≡ Err j → block_refusal L m k bs ≡ Err j
   unfolding shape_refusal
-  no_frame is e h =
-      let f : accepted (frame_refusal L bs) ≡ false = ap accepted (sym e) ∙ h in
-      let s : shape_refusal L (min (block_size L) left) bs ≡ frame_refusal L bs = first_stops (frame_refusal L bs) _ f in
-      refused is (e ∙ sym (block_parts L m (min (block_size L) left) bs ∙ first_stops (shape_refusal L (min (block_size L) left) bs) _ (ap accepted s ∙ f) ∙ s)) h
+  no_frame h = rw (block_parts L m k bs, refuses (frame_refusal L bs) (width_at bs) h)
 
-  module _ {k : ℕ} (own : k ≡ min (block_size L) left) (framed_there : accepted (frame_refusal L bs) ≡ true) (es : List ℕ) (is : take (block_size L) es ≡ table (entry_at L bs) (block_size L)) (w : ℕ) (width : w ≡ width_at bs) where
-    small : k ≤ block_size L
-    small = omega arith
-
-    shape_is : {r : Refusal} → r ≡ entries_refusal L k w (at (take (block_size L) es)) → r ≡ shape_refusal L k bs
+  module _ (small : k ≤ block_size L) (there : frame_refusal L bs ≡ accept) (es : List ℕ) (is : take (block_size L) es ≡ table (entry_at L bs) (block_size L)) where
+    shape_is : shape_refusal L k bs ≡ entries_refusal L k (width_at bs) (at (take (block_size L) es))
     unfolding shape_refusal
-    shape_is e = e ∙ same_refusal L k bs es small is (framed L bs framed_there) w ∙ rw width (sym (first_passes (frame_refusal L bs) _ framed_there))
+    shape_is = rw there (sym (same_refusal L k bs es small is (framed L bs (ap accepted there)) (width_at bs)))
 
-    pub bad_entries : {r : Refusal} {s : Stop} → s ≡ nothing r left m → r ≡ entries_refusal L k w (at (take (block_size L) es)) → accepted r ≡ false → s ≡ block_stop L m left bs
-    bad_entries told e h = refused told (rw (← own) (shape_is e ∙ sym (block_parts L m k bs ∙ first_stops (shape_refusal L k bs) _ (ap accepted (sym (shape_is e)) ∙ h)))) h
+    pub bad_entries : {j : Refusal} → entries_refusal L k (width_at bs) (at (take (block_size L) es)) ≡ Err j → block_refusal L m k bs ≡ Err j
+    bad_entries h = rw (block_parts L m k bs, shape_is ∙ h)
 
-    module _ {r : Refusal} (e : r ≡ entries_refusal L k w (at (take (block_size L) es))) (good : accepted r ≡ true) {c : Course} (walked : c ≡ course m (values_of m (take k es))) where
-      there : c ≡ course m (values_at L m k bs)
-      there = walked ∙ ap (λ (t : List ℕ). course m (values_of m t)) (own_entries L k bs es small is)
+    module _ (good : entries_refusal L k (width_at bs) (at (take (block_size L) es)) ≡ accept) where
+      rest_is : block_refusal L m k bs ≡ refuse_values m (values_of m (take k es)) accept
+      rest_is = rw (block_parts L m k bs, shape_is ∙ good, ← own_entries L k bs es small is)
 
-      shape_good : accepted (shape_refusal L k bs) ≡ true
-      shape_good = ap accepted (sym (shape_is e)) ∙ good
+      pub bad_order : {j : Refusal} → course m (values_of m (take k es)) ≡ Err j → block_refusal L m k bs ≡ Err j
+      bad_order h = rest_is ∙ refuses (refuse_values m (values_of m (take k es)) accept) (after_all m (values_of m (take k es))) h
 
-      orderly : {b : Bool} → c.orderly ≡ b → ordered m (values_at L m k bs) ≡ b
-      orderly h = sym (ap (λ (t : Course). t.orderly) there) ∙ h
+      pub good_block : {next : Mode} → course m (values_of m (take k es)) ≡ Ok next → (block_refusal L m k bs ≡ accept) × (after_all m (values_at L m k bs) ≡ next)
+      good_block h =
+          let p = passes (refuse_values m (values_of m (take k es)) accept) (after_all m (values_of m (take k es))) h in
+          (rest_is ∙ p.0, ap (λ (t : List ℕ). after_all m (values_of m t)) (sym (own_entries L k bs es small is)) ∙ sym p.1)
 
-      pub bad_order : {s : Stop} → s ≡ nothing OutOfOrder left m → c.orderly ≡ false → s ≡ block_stop L m left bs
-      bad_order told h = refused told (rw (← own, block_parts L m k bs, shape_good, orderly h)) refl
+-- what comes of them: the block is taken, or none is
+module _ (L : ℕ) (m : Mode) (left : ℕ) (bs : List ℕ) {k : ℕ} (own : k ≡ min (block_size L) left) {r : Result (ℕ × Mode) Refusal}
+    (told : r ≡ answer (block_refusal L m k bs) (size_at L bs, after_all m (values_at L m k bs))) where
+  pub block_takes : {size : ℕ} {next : Mode} → r ≡ Ok (size, next)
+      → ◌≡◌ {A = Stop} (record { outcome = accept; blocks = 1; place = size; left = left - k; mode = next }) (block_stop L m left bs)
+  block_takes h =
+      let p = passes (block_refusal L m k bs) (size_at L bs, after_all m (values_at L m k bs)) (sym told ∙ h) in
+      let less : left - k ≡ left - block_size L = omega arith in
+      rw (ap (λ (q : ℕ × Mode). q.0) p.1, ap (λ (q : ℕ × Mode). q.1) p.1, less) (sym (block_taken L m left bs (rw (← own, p.0) refl) ∙ rw own refl))
 
-      pub good_block : (size : ℕ) → size ≡ 1 + payload_size L w → c.orderly ≡ true
-          → ◌≡◌ {A = Stop} (record { refusal = Accepted; blocks = 1; place = size; left = left - k; mode = c.mode }) (block_stop L m left bs)
-      good_block size sized h =
-          let o : ordered m (values_at L m k bs) ≡ true = orderly h in
-          let next : c.mode ≡ after_all m (values_at L m k bs) = ap (λ (t : Course). t.mode) there ∙ rw o in
-          let less : left - k ≡ left - block_size L = omega arith in
-          rw (next, less, sized, width, own) (sym (block_taken L m left bs (rw (← own, block_parts L m k bs, shape_good, o))))
+  pub block_refuses : {j : Refusal} → r ≡ Err j → ◌≡◌ {A = Stop} (nothing (Err j) left m) (block_stop L m left bs)
+  block_refuses h =
+      let e = refuses (block_refusal L m k bs) (size_at L bs, after_all m (values_at L m k bs)) (sym told ∙ h) in
+      sym (block_refused L m left bs (rw (← own, e) refl) ∙ rw (← own, e) refl)
 
--- what is left to take is what there was to take, but for what was taken
-pub record Taking (L : ℕ) (m₀ : Mode) (count : ℕ) (body : List ℕ) (m : Mode) (blocks place left : ℕ) : Type 0 where
-  pub within : place ≤ length body
-  pub fewer : blocks + left ≤ count
-  pub same : body_stop L m₀ count body ≡ past (record { refusal = Accepted; blocks = blocks; place = place; left = left; mode = m }) (body_stop L m left (drop place body))
+-- past the first i of b blocks, what is left to take is what there was to take, but for what s took
+pub record Taking (L : ℕ) (m₀ : Mode) (count : ℕ) (body : List ℕ) (b : ℕ) (s : Stop) (i : ℕ) : Type 0 where
+  pub within : s.place ≤ length body
+  pub taken : s.blocks ≡ i
+  pub same : stop_from L m₀ count body b ≡ past s (stop_from L s.mode s.left (drop s.place body) (b - i))
 
-pub taking_start : (L : ℕ) (m : Mode) (count : ℕ) (body : List ℕ) → Taking L m count body m 0 0 count
-taking_start L m count body =
-    let s : Stop = body_stop L m count body in
-    record { within = omega arith; fewer = omega arith; same = rw (zero-add s.blocks, zero-add s.place) }
+pub taking_start : (L : ℕ) (m : Mode) (count : ℕ) (body : List ℕ) (b : ℕ) → Taking L m count body b (nothing accept count m) 0
+taking_start L m count body b =
+    let s : Stop = stop_from L m count body b in
+    record { within = omega arith; taken = refl; same = rw (sub-zero b, zero-add s.blocks, zero-add s.place) refl }
 
-module _ {L : ℕ} {m₀ : Mode} {count : ℕ} {body : List ℕ} {m : Mode} {blocks place left : ℕ} (t : Taking L m₀ count body m blocks place left) (lanes : 0 < L) where
-  -- no value is left
-  pub taking_end : left ≡ 0 → {r : Refusal} → r ≡ end_refusal (mid_of place (length body - place) body)
-      → ◌≡◌ {A = Stop} (record { refusal = r; blocks = blocks; place = place; left = left; mode = m }) (body_stop L m₀ count body)
-  taking_end z e = sym (t.same ∙ rw (z, stop_none L lanes m (drop place body), ← part_is place body, ← e, add-zero blocks, add-zero place))
+module _ {L : ℕ} {m₀ : Mode} {count : ℕ} {body : List ℕ} {b : ℕ} {s : Stop} {i : ℕ} (t : Taking L m₀ count body b s i) where
+  -- no block is left
+  pub taking_end : b ≤ i → {r : Tested} → r ≡ end_refusal (mid_of s.place (length body - s.place) body)
+      → ◌≡◌ {A = Stop} (record { outcome = r; blocks = s.blocks; place = s.place; left = s.left; mode = s.mode }) (stop_from L m₀ count body b)
+  unfolding stop_from
+  taking_end z e =
+      let none : b - i ≡ 0 = omega arith in
+      sym (t.same ∙ rw (none, ← part_is s.place body, ← e, add-zero s.blocks, add-zero s.place))
 
-  module _ (pos : 0 < left) {r : Stop} (told : r ≡ block_stop L m left (mid_of place (length body - place) body)) where
-    here : r ≡ block_stop L m left (drop place body)
-    here = told ∙ rw (part_is place body)
+  module _ (lt : i < b) {r : Stop} (told : r ≡ block_stop L s.mode s.left (mid_of s.place (length body - s.place) body)) where
+    one_more : b - i ≡ suc (b - (i + 1))
+    one_more = omega arith
 
-    refusal_here : r.refusal ≡ block_refusal L m (min (block_size L) left) (drop place body)
-    refusal_here = ap (λ (s : Stop). s.refusal) here ∙ block_refusal_lem L m left (drop place body)
+    here : r ≡ block_stop L s.mode s.left (drop s.place body)
+    here = told ∙ rw (part_is s.place body)
 
-    pub stops_here : accepted r.refusal ≡ false
-        → ◌≡◌ {A = Stop} (record { refusal = r.refusal; blocks = blocks; place = place; left = left; mode = m }) (body_stop L m₀ count body)
+    refusal_here : r.outcome ≡ block_refusal L s.mode (min (block_size L) s.left) (drop s.place body)
+    refusal_here = ap (λ (u : Stop). u.outcome) here ∙ block_refusal_lem L s.mode s.left (drop s.place body)
+
+    pub stops_here : is_err r.outcome ≡ true
+        → ◌≡◌ {A = Stop} (record { outcome = r.outcome; blocks = s.blocks; place = s.place; left = s.left; mode = s.mode }) (stop_from L m₀ count body b)
     stops_here h =
-        sym (t.same ∙ rw (stop_here L lanes m left (drop place body) pos (ap accepted (sym refusal_here) ∙ h), ← refusal_here, add-zero blocks, add-zero place))
+        sym (t.same ∙ rw (one_more, stop_refused L s.mode s.left (drop s.place body) (ap accepted (sym refusal_here) ∙ erred _ h) (b - (i + 1)), ← refusal_here, add-zero s.blocks, add-zero s.place))
 
-    module _ (h : accepted r.refusal ≡ true) where
-      good : accepted (block_refusal L m (min (block_size L) left) (drop place body)) ≡ true
-      good = ap accepted (sym refusal_here) ∙ h
+    module _ (h : is_err r.outcome ≡ false) where
+      good : accepted (block_refusal L s.mode (min (block_size L) s.left) (drop s.place body)) ≡ true
+      good = ap accepted (sym refusal_here) ∙ not_erred _ h
 
-      took : r ≡ taking L m left (drop place body)
-      took = here ∙ block_taken L m left (drop place body) good
+      took : r ≡ taking L s.mode s.left (drop s.place body)
+      took = here ∙ block_taken L s.mode s.left (drop s.place body) good
 
-      size_there : r.place ≡ size_at L (drop place body)
-      size_there = ap (λ (s : Stop). s.place) took
+      size_there : r.place ≡ size_at L (drop s.place body)
+      size_there = ap (λ (u : Stop). u.place) took
 
-      pub left_there : r.left ≡ left - block_size L
-      left_there = ap (λ (s : Stop). s.left) took
+      pub block_within : s.place + r.place ≤ length body
+      block_within = omega (arith, (block_passed L s.mode (min (block_size L) s.left) (drop s.place body) good).frame.whole, size_there, length-drop s.place body, t.within)
 
-      pub block_within : place + r.place ≤ length body
-      block_within = omega (arith, (block_passed L m (min (block_size L) left) (drop place body) good).frame.whole, size_there, length-drop place body, t.within)
-
-      pub taking_more : Taking L m₀ count body r.mode (blocks + 1) (place + r.place) r.left
+      pub taking_more : Taking L m₀ count body b (record { outcome = accept; blocks = s.blocks + 1; place = s.place + r.place; left = r.left; mode = r.mode }) (i + 1)
       taking_more =
-          let now : Stop = record { refusal = Accepted; blocks = blocks; place = place; left = left; mode = m } in
-          let bs : List ℕ = drop place body in
-          let step : Stop = taking L m left bs in
-          let rest : Stop = body_stop L step.mode step.left (drop step.place bs) in
+          let bs : List ℕ = drop s.place body in
+          let step : Stop = taking L s.mode s.left bs in
+          let rest : Stop = stop_from L step.mode step.left (drop step.place bs) (b - (i + 1)) in
           record {
             within = block_within;
-            fewer = omega (arith, t.fewer, left_there);
+            taken = ap (λ (n : ℕ). n + 1) t.taken;
             same =
-                t.same ∙ ap (past now) (stop_next L lanes m left bs pos good) ∙ past_past now step rest
-                ∙ rw took (ap (λ (behind : List ℕ). past (past now step) (body_stop L step.mode step.left behind)) (drop-drop step.place place body));
+                t.same ∙ ap (λ (n : ℕ). past s (stop_from L s.mode s.left bs n)) one_more ∙ ap (past s) (stop_taken L s.mode s.left bs good (b - (i + 1))) ∙ past_past s step rest
+                ∙ rw took (ap (λ (behind : List ℕ). past (past s step) (stop_from L step.mode step.left behind (b - (i + 1)))) (drop-drop step.place s.place body));
           }

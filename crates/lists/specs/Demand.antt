@@ -2,10 +2,9 @@
 -- order, the reader, given a count, a body and room, accepts exactly when the body is what demand 2's layout and the list rules write for some
 -- list of that count; that list is the only one, and is what it returns. The list writer, given such a list and room, writes exactly that
 -- body." The contracts of `read` and of `write` (src/lib.rt) say it of what they answer and leave: DemandReads and DemandWrites.
-use Rattle.std.specs.Prelude.{◌≡◌, true, ◌↔◌, List, ℕ, ◌≤◌, length}
+use Rattle.std.specs.Prelude.{◌≡◌, true, ◌↔◌, List, ℕ, ◌≤◌, length, Result, Ok, is_ok}
 use Rattle.modes.specs.declared.Mode.{Mode}
-use Rattle.answers.specs.declared.Answer.{Answer}
-use Rattle.answers.specs.declared.Refusal.TheVariants.{Accepted}
+use Rattle.answers.specs.declared.Refusal.{Refusal}
 use Rattle.answers.specs.Answers.{over}
 use Rattle.layout.specs.Layout.{is_lanes}
 use Rattle.bodies.specs.List.{IsList}
@@ -17,20 +16,20 @@ pub record Holds (L : ℕ) (m : Mode) (count : ℕ) (bs vs : List ℕ) : Type 0 
   pub body : bs ≡ body_of L m vs
 
 -- the reader was lent `before`; it answered r and left `after`
-pub record Reads (L : ℕ) (m : Mode) (count : ℕ) (bs before : List ℕ) (r : Answer) (after : List ℕ) : Type 0 where
+pub record Reads (L : ℕ) (m : Mode) (count : ℕ) (bs before : List ℕ) (r : Result ℕ Refusal) (after : List ℕ) : Type 0 where
   -- "accepts exactly when the body is what demand 2's layout and the list rules write for some list of that count;"
-  pub exactly : (r.refusal ≡ Accepted) ↔ ((vs : List ℕ) × Holds L m count bs vs)
+  pub exactly : (is_ok r ≡ true) ↔ ((vs : List ℕ) × Holds L m count bs vs)
   -- "that list is the only one,"
   pub only : (vs ws : List ℕ) → Holds L m count bs vs → Holds L m count bs ws → vs ≡ ws
   -- "and is what it returns."
-  pub returns : (vs : List ℕ) → Holds L m count bs vs → (r.length ≡ count) × (after ≡ over vs before)
+  pub returns : (vs : List ℕ) → Holds L m count bs vs → (r ≡ Ok count) × (after ≡ over vs before)
 
 -- "Fix lanes, mode and first value. .. the reader, given a count, a body and room, .."
-abbrev pub DemandReads : ℕ → Mode → ℕ → List ℕ → List ℕ → Answer → List ℕ → Type 0
+abbrev pub DemandReads : ℕ → Mode → ℕ → List ℕ → List ℕ → Result ℕ Refusal → List ℕ → Type 0
 DemandReads L m count bs before r after = is_lanes L ≡ true → count ≤ length before → Reads L m count bs before r after
 
 -- "The list writer, given such a list and room, writes exactly that body." It was lent `before`; it answered r and left `after`.
-abbrev pub DemandWrites : ℕ → Mode → List ℕ → List ℕ → Answer → List ℕ → Type 0
+abbrev pub DemandWrites : ℕ → Mode → List ℕ → List ℕ → Result ℕ Refusal → List ℕ → Type 0
 DemandWrites L m vs before r after =
     is_lanes L ≡ true → IsList m (length vs) vs → length (body_of L m vs) ≤ length before
-    → (r ≡ record { refusal = Accepted; length = length (body_of L m vs) }) × (after ≡ over (body_of L m vs) before)
+    → (r ≡ Ok (length (body_of L m vs))) × (after ≡ over (body_of L m vs) before)

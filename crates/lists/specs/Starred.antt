@@ -4,7 +4,7 @@ use Rattle.layout.specs.Layout.{at, table, packed}
 use Rattle.modes.specs.declared.Initial.TheVariants.{None, Number}
 use Rattle.modes.specs.declared.Mode.TheVariants.{Plain, Sorted, Strict}
 use Rattle.modes.specs.Entries.{entries}
-use Rattle.answers.specs.Refusals.{number_of}
+use Rattle.answers.specs.Answers.{number_in}
 use Rattle.blocks.specs.Calls.{unpacked, pack_refusal}
 use Rattle.bodies.specs.Body.{body_of}
 use Rattle.lists.specs.Calls.{write_refusal, read_refusal, read_output}
@@ -39,19 +39,19 @@ starred =
     -- 8. "L=4, strict, none, list 0, 1, 2: body 00. An empty list has an empty body; body 00 with count 0 is 11."
     ∷ record { given = body_of 4 (Strict None) (0 ∷ 1 ∷ 2 ∷ []); said = 0x00 ∷ [] }
     ∷ record { given = body_of 4 (Strict None) []; said = [] }
-    ∷ record { given = number_of (read_refusal 4 (Strict None) 0 (0x00 ∷ []) 0) ∷ []; said = 11 ∷ [] }
+    ∷ record { given = number_in (read_refusal 4 (Strict None) 0 (0x00 ∷ []) 0) ∷ []; said = 11 ∷ [] }
     -- 9. "L=1, plain: lists (1) and (1, 0) both have body 01 01 00 00 00; the count tells them apart."
     ∷ record { given = body_of 1 Plain (1 ∷ []); said = 0x01 ∷ 0x01 ∷ 0x00 ∷ 0x00 ∷ 0x00 ∷ [] }
     ∷ record { given = body_of 1 Plain (1 ∷ 0 ∷ []); said = 0x01 ∷ 0x01 ∷ 0x00 ∷ 0x00 ∷ 0x00 ∷ [] }
     ∷ record { given = read_output 1 Plain 1 (0x01 ∷ 0x01 ∷ 0x00 ∷ 0x00 ∷ 0x00 ∷ []) (7 ∷ 7 ∷ []); said = 1 ∷ 7 ∷ [] }
     ∷ record { given = read_output 1 Plain 2 (0x01 ∷ 0x01 ∷ 0x00 ∷ 0x00 ∷ 0x00 ∷ []) (7 ∷ 7 ∷ []); said = 1 ∷ 0 ∷ [] }
     -- 10. "L=1, plain, count 1: body 01 03 00 00 00 is 10; body 02 01 and seven 00 is 9."
-    ∷ record { given = number_of (read_refusal 1 Plain 1 (0x01 ∷ 0x03 ∷ 0x00 ∷ 0x00 ∷ 0x00 ∷ []) 1) ∷ []; said = 10 ∷ [] }
-    ∷ record { given = number_of (read_refusal 1 Plain 1 (0x02 ∷ 0x01 ∷ replicate 7 0x00) 1) ∷ []; said = 9 ∷ [] }
+    ∷ record { given = number_in (read_refusal 1 Plain 1 (0x01 ∷ 0x03 ∷ 0x00 ∷ 0x00 ∷ 0x00 ∷ []) 1) ∷ []; said = 10 ∷ [] }
+    ∷ record { given = number_in (read_refusal 1 Plain 1 (0x02 ∷ 0x01 ∷ replicate 7 0x00) 1) ∷ []; said = 9 ∷ [] }
     -- 11. "Strict, none, list 4,294,967,295, 0: 8. As neighbours in a block they pack."
-    ∷ record { given = number_of (write_refusal 1 (Strict None) (4294967295 ∷ 0 ∷ []) 1000) ∷ []; said = 8 ∷ [] }
-    ∷ record { given = number_of (pack_refusal 1 (Strict None) (4294967295 ∷ table (λ k. k) 31) 128 32) ∷ []; said = 0 ∷ [] }
-    ∷ record { given = number_of (pack_refusal 1 (Strict (Number 4294967294)) (4294967295 ∷ table (λ k. k) 31) 0 0) ∷ []; said = 0 ∷ [] }
+    ∷ record { given = number_in (write_refusal 1 (Strict None) (4294967295 ∷ 0 ∷ []) 1000) ∷ []; said = 8 ∷ [] }
+    ∷ record { given = number_in (pack_refusal 1 (Strict None) (4294967295 ∷ table (λ k. k) 31) 128 32) ∷ []; said = 0 ∷ [] }
+    ∷ record { given = number_in (pack_refusal 1 (Strict (Number 4294967294)) (4294967295 ∷ table (λ k. k) 31) 0 0) ∷ []; said = 0 ∷ [] }
     ∷ []
 
 -- "one table of the definitions with a single proved claim" (proofs/Starred, starred_hold)

@@ -14,13 +14,13 @@ use Rattle.lists.specs.Demand.{Holds}
 -- s is the stop of the body bs of count values
 pub record Stops (L : ℕ) (m : Mode) (count : ℕ) (bs : List ℕ) (s : Stop) : Type 0 where
   -- it stops at the refusal of reading, with room for the count
-  pub refused : (room : ℕ) → count ≤ room → s.refusal ≡ read_refusal L m count bs room
+  pub refused : (room : ℕ) → count ≤ room → s.outcome ≡ read_refusal L m count bs room
   -- what is taken is blocks x B values, or all there are, and lies within the bytes; none is left of an accepted body, and no byte behind
   -- the last block
   pub fewer : s.blocks ≤ block_count L count
   pub left : s.left ≡ count - s.blocks * block_size L
   pub inside : s.place ≤ length bs
-  pub whole : accepted s.refusal ≡ true → (s.left ≡ 0) × (s.place ≡ length bs)
+  pub whole : accepted s.outcome ≡ true → (s.left ≡ 0) × (s.place ≡ length bs)
   -- the bytes up to the place are the body of these values, and the mode is the one past them
   pub list : List ℕ
   pub kept : Holds L m (count - s.left) (take s.place bs) list

@@ -2,12 +2,12 @@
 ghost use Rattle.std.specs.Prelude.{◌≡◌, true, ◌≤◌, leb, length, replicate};
 ghost use Rattle.layout.specs.Layout.{block_size, is_lanes};
 ghost use Rattle.answers.specs.Answers.{over};
-ghost use Rattle.order.specs.Order.{entries_of};
+ghost use Rattle.order.specs.Order.{entries_of, after_all};
 ghost use Rattle.bodies.specs.List.{most};
 ghost use Rattle.bodies.specs.Body.{block, body_of};
 
-use crate::sizes::{block_length, lesser};
-use blocks::{compress, num_bits};
+use blocks::{compress, compressed_block_size, num_bits};
+use lanes::Lanes;
 use modes::Mode;
 use order::{after, next_entry};
 
@@ -18,42 +18,45 @@ fn filled_entries(mode: Mode, values: &[u32]) -> [u32; 256]
 {
     let mut block = [0u32; 256];
     let mut running = mode;
-    let mut i: usize = 0;
-    while i < values.len() {
-        let v = values[i];
+    for (i, &v) in values.iter().enumerate() {
         block[i] = next_entry(running, v);
         running = after(running, v);
-        i += 1;
     }
     block
 }
 
-// The length of the block of some values.
-fn length_of(lanes: usize, mode: Mode, values: &[u32]) -> usize
-    requires { (is_lanes lanes ≡ true) × (length values.now ≤ block_size lanes) }
-    ensures value { result ≡ length (block lanes (entries_of mode values.now)) }
-    ensures upper_bound { result ≤ 1025 }
+// The mode past some values: that past the last of them.
+#[tactic(auto, unfolding(order::specs::Order::after_all))]
+fn past(mode: Mode, values: &[u32]) -> Mode
+    ensures { result ≡ after_all mode values.now }
 {
+    match values.last() {
+        Some(&v) => after(mode, v),
+        None => mode,
+    }
+}
+
+// The length of the block of some values.
+fn length_of(lanes: Lanes, mode: Mode, values: &[u32]) -> usize
+    requires { length values.now ≤ block_size lanes }
+    ensures { result ≡ length (block lanes (entries_of mode values.now)) }
+{
+    let count = lanes.count();
     let block = filled_entries(mode, values);
-    block_length(
-        lanes,
-        num_bits(lanes, Mode::Plain, &block[..32 * lanes]).width,
-    )
+    let width = num_bits(count, Mode::Plain, &block[..lanes.block_size()]).unwrap();
+    1 + compressed_block_size(count, width).unwrap()
 }
 
 // The length of the body of some values.
-pub(crate) fn body_length(lanes: usize, mode: Mode, values: &[u32]) -> usize
-    requires { (is_lanes lanes ≡ true) × (length values.now ≤ most) }
+pub(crate) fn body_length(lanes: Lanes, mode: Mode, values: &[u32]) -> usize
+    requires { length values.now ≤ most }
     ensures { result ≡ length (body_of lanes mode values.now) }
 {
     let mut running = mode;
-    let mut place: usize = 0;
-    let mut total: usize = 0;
-    while place < values.len() {
-        let k = lesser(32 * lanes, values.len() - place);
-        total += length_of(lanes, running, &values[place..place + k]);
-        place += k;
-        running = after(running, values[place - 1]);
+    let mut total = 0;
+    for part in values.chunks(lanes.block_size()) {
+        total += length_of(lanes, running, part);
+        running = past(running, part);
     }
     total
 }
@@ -62,7 +65,7 @@ pub(crate) fn body_length(lanes: usize, mode: Mode, values: &[u32]) -> usize
 const LONGEST: usize = 16512;
 
 // Whether the body of some values fits. It is measured only where a longer one might not.
-pub(crate) fn has_room(lanes: usize, mode: Mode, values: &[u32], room: usize) -> bool
+pub(crate) fn has_room(lanes: Lanes, mode: Mode, values: &[u32], room: usize) -> bool
     requires { (is_lanes lanes ≡ true) × (length values.now ≤ most) }
     ensures { result ≡ leb (length (body_of lanes mode values.now)) room }
 {
@@ -73,38 +76,30 @@ pub(crate) fn has_room(lanes: usize, mode: Mode, values: &[u32], room: usize) ->
 }
 
 // The block of some values, at the front of `body`: its width, and its payload. Answers its length.
-fn store_block(lanes: usize, mode: Mode, values: &[u32], body: &mut [u8]) -> usize
-    requires { (is_lanes lanes ≡ true) × (length values.now ≤ block_size lanes) × (length (block lanes (entries_of mode values.now)) ≤ length body.old) }
+fn store_block(lanes: Lanes, mode: Mode, values: &[u32], body: &mut [u8]) -> usize
+    requires { (length values.now ≤ block_size lanes) × (length (block lanes (entries_of mode values.now)) ≤ length body.old) }
     ensures value { result ≡ length (block lanes (entries_of mode values.now)) }
     ensures body_after { body.new ≡ over (block lanes (entries_of mode values.now)) body.old }
 {
+    let count = lanes.count();
     let block = filled_entries(mode, values);
-    let width = num_bits(lanes, Mode::Plain, &block[..32 * lanes]).width;
-    body[0] = (width % 256) as u8;
-    compress(
-        lanes,
-        Mode::Plain,
-        &block[..32 * lanes],
-        &mut body[1..],
-        width,
-    );
-    block_length(lanes, width)
+    let entries = &block[..lanes.block_size()];
+    let width = num_bits(count, Mode::Plain, entries).unwrap();
+    body[0] = width as u8;
+    1 + compress(count, Mode::Plain, entries, &mut body[1..], width).unwrap()
 }
 
 // The body of some values, at the front of `body`. Answers its length.
-pub(crate) fn store_body(lanes: usize, mode: Mode, values: &[u32], body: &mut [u8]) -> usize
-    requires { (is_lanes lanes ≡ true) × (length values.now ≤ most) × (length (body_of lanes mode values.now) ≤ length body.old) }
+pub(crate) fn store_body(lanes: Lanes, mode: Mode, values: &[u32], body: &mut [u8]) -> usize
+    requires { length (body_of lanes mode values.now) ≤ length body.old }
     ensures value { result ≡ length (body_of lanes mode values.now) }
     ensures body_after { body.new ≡ over (body_of lanes mode values.now) body.old }
 {
     let mut running = mode;
-    let mut place: usize = 0;
-    let mut done: usize = 0;
-    while place < values.len() {
-        let k = lesser(32 * lanes, values.len() - place);
-        done += store_block(lanes, running, &values[place..place + k], &mut body[done..]);
-        place += k;
-        running = after(running, values[place - 1]);
+    let mut done = 0;
+    for part in values.chunks(lanes.block_size()) {
+        done += store_block(lanes, running, part, &mut body[done..]);
+        running = past(running, part);
     }
     done
 }

@@ -3,13 +3,11 @@
 // the table, and works out the same answers from document 01.
 #![tactic(auto)]
 
-use cases::{body_case, list_case};
+use cases::{check_body, list_case, on_body, part_of_body, read_body};
 use changes::change_case;
 use std::io;
-use streams::read_full;
-use tables::buffers::table_room;
-use tables::line;
-use tables::words::{before, behind, letter_at};
+use tables::for_each_line;
+use tables::words::{behind, letter_at};
 
 mod calls;
 mod cases;
@@ -23,7 +21,9 @@ fn run_case(rt: &impl Print, kind: u8, case: &[u8]) -> io::Result<()> {
     match kind {
         b'l' => list_case(rt, case),
         b'c' => change_case(rt, case),
-        b'b' | b's' | b'p' => body_case(rt, kind, case),
+        b'b' => on_body(case, |body| read_body(rt, case, body)),
+        b's' => on_body(case, |body| check_body(rt, case, body)),
+        b'p' => on_body(case, |body| part_of_body(rt, case, body)),
         _ => Ok(()),
     }
 }
@@ -31,22 +31,9 @@ fn run_case(rt: &impl Print, kind: u8, case: &[u8]) -> io::Result<()> {
 fn run_line(rt: &impl Print, line: &[u8]) -> io::Result<()> {
     rt.write_all(line)?;
     run_case(rt, letter_at(line, 0), behind(b' ', line))?;
-    line::end(rt)
-}
-
-// Every line of a text.
-fn run_all(rt: &impl Print, text: &[u8]) -> io::Result<()> {
-    let mut rest = text;
-    while 0 < rest.len() {
-        run_line(rt, before(b'\n', rest))?;
-        let next = behind(b'\n', rest);
-        rest = next;
-    }
-    Ok(())
+    println!(rt)
 }
 
 fn main(rt: HostRuntime) -> io::Result<()> {
-    let mut table = table_room();
-    let size = read_full(&mut rt.stdin(), &mut table)?;
-    run_all(&rt, &table[..size])
+    for_each_line(&mut rt.stdin(), |line| run_line(&rt, line))
 }

@@ -1,35 +1,32 @@
 // Where a check stopped, as a word.
 use bodies::Stop;
 use modes::{Initial, Mode};
-use std::io;
-use tables::line;
-use tables::line::no_numbers;
-
-fn strict(rt: &impl Print, start: Initial) -> io::Result<()> {
-    match start {
-        Initial::None => rt.write_all(b"strict:none"),
-        Initial::Number(first) => line::named(rt, b"strict:", first as u64),
-    }
-}
+use std::{fmt, io};
+use tables::line::number;
 
 // A mode, as `plain`, `sorted:5`, `strict:5` or `strict:none`.
-fn mode(rt: &impl Print, value: Mode) -> io::Result<()> {
-    match value {
-        Mode::Plain => rt.write_all(b"plain"),
-        Mode::Sorted(first) => line::named(rt, b"sorted:", first as u64),
-        Mode::Strict(start) => strict(rt, start),
+#[derive(Clone, Copy)]
+struct Past(Mode);
+
+impl fmt::Display for Past {
+    fn fmt<W: fmt::Write>(&self, f: &mut fmt::Formatter<W>) -> fmt::Result {
+        match self.0 {
+            Mode::Plain => write!(f, "plain"),
+            Mode::Sorted(first) => write!(f, "sorted:{first}"),
+            Mode::Strict(Initial::None) => write!(f, "strict:none"),
+            Mode::Strict(Initial::Number(first)) => write!(f, "strict:{first}"),
+        }
     }
 }
 
 // The number of the refusal, the blocks, the place, the values left, and the mode.
-pub(crate) fn stop(rt: &impl Print, value: Stop) -> io::Result<()> {
-    let refusal = value.refusal;
-    let past = value.mode;
-    let none = no_numbers();
-    let refused = none.with_value(refusal.number());
-    let blocks = refused.with(value.blocks as u64);
-    let place = blocks.with(value.place as u64);
-    let all = place.with(value.left as u64);
-    all.write(rt, b" stop=#,#,#,#,")?;
-    mode(rt, past)
+pub(crate) fn show_stop(rt: &impl Print, stop: Stop) -> io::Result<()> {
+    print!(rt;
+        " stop={},{},{},{},{}",
+        number(&stop.outcome),
+        stop.blocks,
+        stop.place,
+        stop.left,
+        Past(stop.mode)
+    )
 }

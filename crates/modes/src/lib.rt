@@ -10,13 +10,13 @@ ghost use Rattle.modes.specs.Entries.{first_of, entry_of, values_from};
 use lanes::scalar::{add, compute_delta, integrate_delta, set1, sub};
 
 // What strict starts from: none or a number (the Rust's `Option<u32>`).
-#[derive(Clone, Copy)]
+#[derive(Clone, Copy, Debug, PartialEq, Eq)]
 pub enum Initial {
     None,
     Number(u32),
 }
 
-#[derive(Clone, Copy)]
+#[derive(Clone, Copy, Debug, PartialEq, Eq)]
 pub enum Mode {
     Plain,
     // the first number
@@ -30,11 +30,8 @@ pub fn initial_value(mode: Mode) -> u32
 {
     match mode {
         Mode::Plain => 0,
-        Mode::Sorted(first) => first,
-        Mode::Strict(start) => match start {
-            Initial::None => 4294967295,
-            Initial::Number(first) => first,
-        },
+        Mode::Strict(Initial::None) => u32::MAX,
+        Mode::Sorted(first) | Mode::Strict(Initial::Number(first)) => first,
     }
 }
 

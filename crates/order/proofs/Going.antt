@@ -5,11 +5,13 @@ use mathlib.Core.List.{List, [], ◌∷◌, ◌++◌}
 use Prim.Native.Nat.{ℕ, ◌+◌, ◌-◌, ◌≤◌, ◌<◌}
 use native.Mathlib.Omega.{arith}
 use lib.ListN.{length, take, drop, take-append-drop}
+use Rattle.std.specs.Prelude.{Result, Ok, Err}
+use Rattle.answers.specs.declared.Refusal.{Refusal}
+use Rattle.answers.specs.declared.Refusal.TheVariants.{OutOfOrder}
 use lib.Seq.{take_all, take-length}
 use Rattle.layout.specs.Layout.{at}
 use Rattle.answers.proofs.Fronts.{take_more}
 use Rattle.modes.specs.declared.Mode.{Mode}
-use Rattle.order.specs.declared.Course.{Course}
 use Rattle.order.specs.Order.{after, after_all, admits, ordered, next_entry, next_value, entries_of, values_of, course}
 use Rattle.order.proofs.Steps.{after_append, after_one, after_last, entries_append, entries_one, values_append, values_one, ordered_append, ordered_one}
 
@@ -73,14 +75,14 @@ module _ {m next : Mode} (es : List ℕ) (i : ℕ) (g : Going m (values_of m (ta
     pub walking_on : admits next (next_value next (at es i)) ≡ true → Going m (values_of m (take (i + 1) es)) (after next (next_value next (at es i)))
     walking_on ok = rw one_value (going_more g (next_value next (at es i)) ok)
 
-    pub walk_ends : admits next (next_value next (at es i)) ≡ false → ◌≡◌ {A = Course} (record { orderly = false; mode = m }) (course m (values_of m es))
+    pub walk_ends : admits next (next_value next (at es i)) ≡ false → ◌≡◌ {A = Result Mode Refusal} (Err OutOfOrder) (course m (values_of m es))
     walk_ends bad =
         let split : values_of m es ≡ values_of m (take (i + 1) es) ++ values_of (after_all m (values_of m (take (i + 1) es))) (drop (i + 1) es) =
         ap (values_of m) (sym (take-append-drop (i + 1) es)) ∙ values_append m (take (i + 1) es) (drop (i + 1) es) in
         let no : ordered m (values_of m es) ≡ false = rw (split, one_value) (going_bad g (next_value next (at es i)) bad _) in
         rw no
 
-  pub walk_through : length es ≤ i → ◌≡◌ {A = Course} (record { orderly = true; mode = next }) (course m (values_of m es))
+  pub walk_through : length es ≤ i → ◌≡◌ {A = Result Mode Refusal} (Ok next) (course m (values_of m es))
   walk_through h =
       let all : take i es ≡ es = take_all i es h in
       let g' : Going m (values_of m es) next = rw all at g in

@@ -1,13 +1,16 @@
 -- The order of "Lists" in document 01, and a list's entries and values, one after another. The mode goes along with them: past a
 -- value it is the list's mode with that value in place of the first number. So the ends of blocks play no part here: that "the
 -- previous value of a block's first is the last value of the block before" is a claim (Claims, ListEntries and ListValues).
-use Rattle.std.specs.Prelude.{Bool, true, ◌&&◌, cond, List, [], ◌∷◌, ℕ, leb, ltb, eqb}
+use Rattle.std.specs.Prelude.{Bool, true, ◌&&◌, cond, List, [], ◌∷◌, ℕ, leb, ltb, eqb, not, Result}
+use Rattle.answers.specs.declared.Refusal.{Refusal}
+use Rattle.answers.specs.declared.Refusal.TheVariants.{OutOfOrder}
+use Rattle.answers.specs.Refusals.{accept, refuse}
+use Rattle.answers.specs.Answers.{answer}
 use Rattle.modes.specs.declared.Initial.{Initial}
 use Rattle.modes.specs.declared.Initial.TheVariants.{None, Number}
 use Rattle.modes.specs.declared.Mode.{Mode}
 use Rattle.modes.specs.declared.Mode.TheVariants.{Plain, Sorted, Strict}
 use Rattle.modes.specs.Entries.{first_of, entry_of, value_of}
-use Rattle.order.specs.declared.Course.{Course}
 
 -- "Strict with none, and strict with 4,294,967,295, put no bound on the first."
 abbrev pub starting_initial : Initial → Initial
@@ -62,6 +65,6 @@ unfoldable pub values_of : Mode → List ℕ → List ℕ
 values_of m [] = []
 values_of m (e ∷ es) = next_value m e ∷ values_of (after m (next_value m e)) es
 
--- whether the values vs are in order, and the mode past them; the mode before them where they are not
-abbrev pub course : Mode → List ℕ → Course
-course m vs = record { orderly = ordered m vs; mode = cond (ordered m vs) (after_all m vs) m }
+-- the mode past the values vs, or 8 where they are not in order
+abbrev pub course : Mode → List ℕ → Result Mode Refusal
+course m vs = answer (refuse (not (ordered m vs)) OutOfOrder accept) (after_all m vs)

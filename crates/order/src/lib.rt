@@ -4,7 +4,7 @@
 ghost use Rattle.std.specs.Prelude.{◌≡◌};
 ghost use Rattle.order.specs.Order.{starting_initial, starting, after, admits, ordered, next_entry, next_value, values_of, course};
 
-use lanes::sums::{wrapping_add, wrapping_sub};
+use answers::Refusal;
 use modes::{Initial, Mode, initial_value};
 
 // Strict's first number where a list starts: 4,294,967,295 stands for none.
@@ -12,12 +12,8 @@ pub fn starting_initial(start: Initial) -> Initial
     ensures { result ≡ starting_initial start }
 {
     match start {
-        Initial::None => Initial::None,
-        Initial::Number(first) => if first == 4294967295 {
-            Initial::None
-        } else {
-            Initial::Number(first)
-        },
+        Initial::Number(4294967295) => Initial::None,
+        _ => start,
     }
 }
 
@@ -26,9 +22,8 @@ pub fn starting(mode: Mode) -> Mode
     ensures { result ≡ starting mode }
 {
     match mode {
-        Mode::Plain => Mode::Plain,
-        Mode::Sorted(first) => Mode::Sorted(first),
         Mode::Strict(start) => Mode::Strict(starting_initial(start)),
+        _ => mode,
     }
 }
 
@@ -48,12 +43,9 @@ pub fn admits(mode: Mode, v: u32) -> bool
     ensures { result ≡ admits mode v }
 {
     match mode {
-        Mode::Plain => true,
+        Mode::Plain | Mode::Strict(Initial::None) => true,
         Mode::Sorted(first) => first <= v,
-        Mode::Strict(start) => match start {
-            Initial::None => true,
-            Initial::Number(first) => first < v,
-        },
+        Mode::Strict(Initial::Number(first)) => first < v,
     }
 }
 
@@ -61,11 +53,11 @@ pub fn admits(mode: Mode, v: u32) -> bool
 pub fn next_entry(mode: Mode, v: u32) -> u32
     ensures { result ≡ next_entry mode v }
 {
-    let difference = wrapping_sub(v, initial_value(mode));
+    let difference = v.wrapping_sub(initial_value(mode));
     match mode {
         Mode::Plain => v,
         Mode::Sorted(_) => difference,
-        Mode::Strict(_) => wrapping_sub(difference, 1),
+        Mode::Strict(_) => difference.wrapping_sub(1),
     }
 }
 
@@ -76,8 +68,8 @@ pub fn next_value(mode: Mode, e: u32) -> u32
     let previous = initial_value(mode);
     match mode {
         Mode::Plain => e,
-        Mode::Sorted(_) => wrapping_add(previous, e),
-        Mode::Strict(_) => wrapping_add(previous, wrapping_add(e, 1)),
+        Mode::Sorted(_) => previous.wrapping_add(e),
+        Mode::Strict(_) => previous.wrapping_add(e.wrapping_add(1)),
     }
 }
 
@@ -86,44 +78,26 @@ pub fn in_order(mode: Mode, values: &[u32]) -> bool
     ensures { result ≡ ordered mode values.now }
 {
     let mut running = mode;
-    let mut i: usize = 0;
-    while i < values.len() {
-        let v = values[i];
+    for &v in values {
         if !admits(running, v) {
             return false;
         }
         running = after(running, v);
-        i += 1;
     }
     true
 }
 
-// Whether some values are in order, and the mode past them; the mode before them where they are not.
-#[derive(Clone, Copy)]
-pub struct Course {
-    pub orderly: bool,
-    pub mode: Mode,
-}
-
-// The course of the values that the entries stand for.
-pub fn walk(mode: Mode, entries: &[u32]) -> Course
+// The mode past the values that the entries stand for, or 8 where these are not in order.
+pub fn walk(mode: Mode, entries: &[u32]) -> Result<Mode, Refusal>
     ensures { result ≡ course mode (values_of mode entries.now) }
 {
     let mut running = mode;
-    let mut i: usize = 0;
-    while i < entries.len() {
-        let v = next_value(running, entries[i]);
+    for &e in entries {
+        let v = next_value(running, e);
         if !admits(running, v) {
-            return Course {
-                orderly: false,
-                mode,
-            };
+            return Err(Refusal::OutOfOrder);
         }
         running = after(running, v);
-        i += 1;
     }
-    Course {
-        orderly: true,
-        mode: running,
-    }
+    Ok(running)
 }

@@ -8,13 +8,13 @@ use borrow.Author.Tests.{le-ltb}
 use lib.Dec.{ltb}
 use lib.ListN.{length, take, length-append}
 use Rattle.layout.specs.Layout.{Below}
-use Rattle.answers.specs.Answers.{over}
+use Rattle.std.specs.Prelude.{Result, Ok, Err, is_ok}
+use Rattle.answers.specs.Answers.{number_in, over}
 use Rattle.answers.proofs.Fronts.{take_over}
-use Rattle.answers.specs.declared.Answer.{Answer}
 use Rattle.answers.specs.declared.Refusal.{Refusal}
-use Rattle.answers.specs.declared.Refusal.TheVariants.{Accepted, NoRoom, TooMany, OutOfOrder, BadHeader}
-use Rattle.answers.specs.Refusals.{number_of, accepted, refuse, or_else}
-use Rattle.answers.proofs.Refusals.{apart, passed, both, refused, either}
+use Rattle.answers.specs.declared.Refusal.TheVariants.{NoRoom, TooMany, OutOfOrder, BadHeader}
+use Rattle.answers.specs.Refusals.{Tested, number_of, accept, accepted, refuse, or_else}
+use Rattle.answers.proofs.Refusals.{apart, accepted_is, passed, both, refused, either}
 use Rattle.layout.proofs.Widths.{and_both}
 use Rattle.modes.specs.declared.Mode.{Mode}
 use Rattle.order.specs.Order.{starting, ordered}
@@ -30,9 +30,7 @@ use Rattle.text.proofs.Lines.{number_line_short}
 use Rattle.text.proofs.Beginnings.{same_is, is_same}
 use Rattle.files.specs.declared.heading.Header.{Header}
 use Rattle.files.specs.Header.{settings, header_text, Heads}
-use Rattle.files.specs.declared.SettingsFound.{SettingsFound}
-use Rattle.files.specs.kernel.Finding.{settings_in}
-use Rattle.files.specs.Opening.{is_settings, header_in, body_in, is_file}
+use Rattle.files.specs.Opening.{is_settings, settings_said, header_in, body_in, is_file}
 use Rattle.files.specs.Calls.{list_in, read_file_refusal, header_for, file_for}
 use Rattle.files.proofs.Lines.{settings_rest, settings_short, header_short}
 use Rattle.files.proofs.Filing.{file_splits}
@@ -43,7 +41,7 @@ use Rattle.programs.specs.Claims.{TextsExactly, TextValues, FileNumbers, TextNum
 use Rattle.programs.specs.Programs.{refused_line, output, limit_refusal, file_refusal, list_to_text, IsText, rest_in, values_in, is_text, text_refusal, text_to_list, is_one, HasOne, out_answer, out_left}
 use Rattle.programs.proofs.ValueLines.{lines_short}
 use Rattle.programs.proofs.Found.{values_found, found_small}
-use Rattle.programs.proofs.Outcomes.{list_few, file_accepted as printed_values}
+use Rattle.programs.proofs.Outcomes.{list_few, printed_values}
 
 -- sound texts
 
@@ -54,23 +52,23 @@ module _ {text : List ℕ} {L : ℕ} {m : Mode} {vs : List ℕ} (t : IsText text
 
   pub text_sound : is_text text ≡ true
   unfolding is_text
-  text_sound = rw (ap (λ (p : SettingsFound). accepted p.refusal) (settings_back t.sets), text_values, rest_found t.sets) (is_same (value_lines vs))
+  text_sound = rw (ap is_ok (settings_back t.sets), text_values, rest_found t.sets) (is_same (value_lines vs))
 
 -- and what is found writes the text
-pub sound_text : (text : List ℕ) → is_text text ≡ true → IsText text (settings_in text).lanes (settings_in text).mode (values_in text)
+pub sound_text : (text : List ℕ) → is_text text ≡ true → IsText text (settings_said text).lanes (settings_said text).mode (values_in text)
 unfolding is_text
 sound_text text h =
     let a = and_both (is_settings text) _ h in
     let s = settings_sets text a.0 in
     let e : rest_in text ≡ value_lines (values_in text) = same_is (value_lines (values_in text)) (rest_in text) a.1 in
     record {
-      sets = record { told = s.told; whole = s.whole ∙ ap (settings (settings_in text).lanes (settings_in text).mode) e };
+      sets = record { told = s.told; whole = s.whole ∙ ap (settings (settings_said text).lanes (settings_said text).mode) e };
       values = found_small (rest_in text);
     }
 
 -- taken as sound are exactly the texts that some lanes, mode, first and values write
 pub texts_exactly : TextsExactly
-texts_exactly text = (λ h. ((settings_in text).lanes, ((settings_in text).mode, (values_in text, sound_text text h))), λ x. text_sound x.1.1.1)
+texts_exactly text = (λ h. ((settings_said text).lanes, ((settings_said text).mode, (values_in text, sound_text text h))), λ x. text_sound x.1.1.1)
 
 pub values_told : TextValues
 values_told text L m vs t = text_values t
@@ -93,12 +91,9 @@ file_told {file} {h} {body} hd fits =
 refused_short : (k : Refusal) → length (refused_line k) ≤ 19
 refused_short k = number_line_short (word "refused=") (number_of k)
 
-output_short : (k : Refusal) (t : List ℕ) (n : ℕ) → 19 ≤ n → (accepted k ≡ true → length t ≤ n) → length (output k t) ≤ n
-output_short k t n some h = go (accepted k) refl
-  where
-    go : (b : Bool) → accepted k ≡ b → length (output k t) ≤ n
-    go true q = rw q (h q)
-    go false q = rw q (omega (arith, refused_short k))
+output_short : (k : Tested) (t : List ℕ) (n : ℕ) → 19 ≤ n → (accepted k ≡ true → length t ≤ n) → length (output k t) ≤ n
+output_short (Ok a) t n some h = h refl
+output_short (Err k) t n some h = omega (arith, refused_short k)
 
 -- 4,096 values of ten digits
 pub text_short : TextRoom
@@ -107,7 +102,7 @@ text_short file =
     output_short (file_refusal file) (value_lines (list_in file)) 45056 (omega arith)
     (λ h. omega (arith, lines_short (list_in file), list_few file (both_is (limit_refusal file) h)))
   where
-    both_is : (k : Refusal) → accepted (or_else k (read_file_refusal file most)) ≡ true → accepted (read_file_refusal file most) ≡ true
+    both_is : (k : Tested) → accepted (or_else k (read_file_refusal file most)) ≡ true → accepted (read_file_refusal file most) ≡ true
     both_is k h = (both k (read_file_refusal file most) h).1
 
 -- the longest header, and the largest body
@@ -121,23 +116,24 @@ file_length L m vs h =
 pub file_short : FileRoom
 unfolding text_to_list
 file_short text =
-    output_short (text_refusal text) (file_for (settings_in text).lanes (settings_in text).mode (values_in text)) 16593 (omega arith)
-    (λ h. file_length (settings_in text).lanes (settings_in text).mode (values_in text) (passed (not (is_text text)) BadHeader (measure_refusal (settings_in text).lanes (settings_in text).mode (values_in text)) refl (both (limit_refusal text) _ h).1).1)
+    output_short (text_refusal text) (file_for (settings_said text).lanes (settings_said text).mode (values_in text)) 16593 (omega arith)
+    (λ h. file_length (settings_said text).lanes (settings_said text).mode (values_in text) (passed (not (is_text text)) BadHeader (measure_refusal (settings_said text).lanes (settings_said text).mode (values_in text)) (both (limit_refusal text) _ h).1).1)
 
 -- so with that much room 4 is not the answer of a call, and all of it goes out
-pub whole_answer : (t : List ℕ) (room : ℕ) → length t ≤ room → out_answer t room ≡ record { refusal = Accepted; length = length t }
+pub whole_answer : (t : List ℕ) (room : ℕ) → length t ≤ room → out_answer t room ≡ Ok (length t)
 whole_answer t room h = rw (le-ltb room (length t) h)
 
-pub all_out : (t : List ℕ) {n : ℕ} → length t ≤ n → {r : Answer} → r ≡ out_answer t n → r.refusal ≡ Accepted
-all_out t {n} short e = ap (λ (a : Answer). a.refusal) (e ∙ whole_answer t n short)
+pub all_out : (t : List ℕ) {n : ℕ} → length t ≤ n → {r : Result ℕ Refusal} → r ≡ out_answer t n → r ≡ Ok (length t)
+all_out t {n} short e = e ∙ whole_answer t n short
 
 pub whole_left : (t before : List ℕ) → length t ≤ length before → out_left t before ≡ over t before
 whole_left t before h = rw (le-ltb (length before) (length t) h)
 
 -- and stands at the front of the output
-pub out_is : (t before : List ℕ) → length t ≤ length before → {r : Answer} {out : List ℕ} → r ≡ out_answer t (length before) → out ≡ out_left t before → take r.length out ≡ t
-out_is t before short e o =
-    rw (o, whole_left t before short) (take_over _ t before (sym (ap (λ (a : Answer). a.length) (e ∙ whole_answer t (length before) short))))
+pub out_is : (t before : List ℕ) → length t ≤ length before → {size : ℕ} {out : List ℕ} → Ok size ≡ out_answer t (length before) → out ≡ out_left t before → take size out ≡ t
+out_is t before short {size} e o =
+    let q : ◌≡◌ {A = Result ℕ Refusal} (Ok size) (Ok (length t)) = all_out t short e in
+    rw (o, whole_left t before short) (take_over size t before cc)
 
 -- which numbers arise
 
@@ -145,12 +141,12 @@ out_is t before short e o =
 pub file_numbers : FileNumbers
 unfolding is_one
 file_numbers file =
-    either Mine (limit_refusal file) _ (refused Mine (ltb 65536 (length file)) BadHeader Accepted refl refl) (go (is_file file) refl)
+    either Mine (limit_refusal file) _ (refused Mine (ltb 65536 (length file)) BadHeader accept refl refl) (go (is_file file) refl)
   where
-    Mine : Refusal → Type 0
+    Mine : Tested → Type 0
     Mine = HasOne (0 ∷ 12 ∷ 7 ∷ 5 ∷ 2 ∷ 10 ∷ 9 ∷ 8 ∷ 11 ∷ [])
 
-    tests : (b : Bool) (next : Refusal) → HasOne (0 ∷ 12 ∷ 7 ∷ 5 ∷ 2 ∷ 10 ∷ 9 ∷ 8 ∷ 11 ∷ []) next → HasOne (0 ∷ 12 ∷ 7 ∷ 5 ∷ 2 ∷ 10 ∷ 9 ∷ 8 ∷ 11 ∷ []) (refuse b TooMany (refuse b NoRoom next))
+    tests : (b : Bool) (next : Tested) → HasOne (0 ∷ 12 ∷ 7 ∷ 5 ∷ 2 ∷ 10 ∷ 9 ∷ 8 ∷ 11 ∷ []) next → HasOne (0 ∷ 12 ∷ 7 ∷ 5 ∷ 2 ∷ 10 ∷ 9 ∷ 8 ∷ 11 ∷ []) (refuse b TooMany (refuse b NoRoom next))
     tests true next h = refl
     tests false next h = h
 
@@ -165,23 +161,23 @@ file_numbers file =
 pub text_numbers : TextNumbers
 unfolding is_one measure_refusal
 text_numbers text =
-    either Mine (limit_refusal text) _ (refused Mine (ltb 65536 (length text)) BadHeader Accepted refl refl) (go (is_text text) refl)
+    either Mine (limit_refusal text) _ (refused Mine (ltb 65536 (length text)) BadHeader accept refl refl) (go (is_text text) refl)
   where
-    Mine : Refusal → Type 0
+    Mine : Tested → Type 0
     Mine = HasOne (0 ∷ 12 ∷ 7 ∷ 8 ∷ [])
 
-    go : (b : Bool) → is_text text ≡ b → HasOne (0 ∷ 12 ∷ 7 ∷ 8 ∷ []) (refuse (not (is_text text)) BadHeader (measure_refusal (settings_in text).lanes (settings_in text).mode (values_in text)))
+    go : (b : Bool) → is_text text ≡ b → HasOne (0 ∷ 12 ∷ 7 ∷ 8 ∷ []) (refuse (not (is_text text)) BadHeader (measure_refusal (settings_said text).lanes (settings_said text).mode (values_in text)))
     go false q = rw q
     go true q =
         rw (q, (sound_text text q).sets.told.lanes)
-        (refused Mine (ltb most (length (values_in text))) TooMany _ refl (refused Mine (not (ordered (starting (settings_in text).mode) (values_in text))) OutOfOrder Accepted refl refl))
+        (refused Mine (ltb most (length (values_in text))) TooMany _ refl (refused Mine (not (ordered (starting (settings_said text).mode) (values_in text))) OutOfOrder accept refl refl))
 
 -- "Number 4 does not arise in the programs."
-pub file_not_four : (file : List ℕ) → number_of (file_refusal file) ≡ 4 → ⊥
+pub file_not_four : (file : List ℕ) → number_in (file_refusal file) ≡ 4 → ⊥
 unfolding is_one
 file_not_four file e = apart (sym (sym (ap (is_one (0 ∷ 12 ∷ 7 ∷ 5 ∷ 2 ∷ 10 ∷ 9 ∷ 8 ∷ 11 ∷ [])) e) ∙ file_numbers file))
 
-pub text_not_four : (text : List ℕ) → number_of (text_refusal text) ≡ 4 → ⊥
+pub text_not_four : (text : List ℕ) → number_in (text_refusal text) ≡ 4 → ⊥
 unfolding is_one
 text_not_four text e = apart (sym (sym (ap (is_one (0 ∷ 12 ∷ 7 ∷ 8 ∷ [])) e) ∙ text_numbers text))
 
@@ -201,10 +197,10 @@ pub values_back : {text : List ℕ} {L : ℕ} {m : Mode} {vs : List ℕ} → IsT
 unfolding list_to_text
 values_back {text} {L} {m} {vs} t l =
     let lanes = t.sets.told.lanes in
-    let k : accepted (measure_refusal L m vs) ≡ true = (measure_exactly L m vs).1 (record { lanes = lanes; few = l.few; order = l.order }) in
+    let good : accepted (measure_refusal L m vs) ≡ true = (measure_exactly L m vs).1 (record { lanes = lanes; few = l.few; order = l.order }) in
     let fits : length text ≤ 65536 = rw t.sets.whole (omega (arith, text_length L m vs l.few)) in
-    let f : text_to_list text ≡ file_for L m vs = text_told t fits ∙ rw k in
-    let short : length (file_for L m vs) ≤ 65536 = omega (arith, file_length L m vs k) in
+    let f : text_to_list text ≡ file_for L m vs = text_told t fits ∙ rw (accepted_is _ good) in
+    let short : length (file_for L m vs) ≤ 65536 = omega (arith, file_length L m vs good) in
     rw (f, le-ltb 65536 (length (file_for L m vs)) short, file_accepted L m vs lanes t.sets.told.first l most l.few, file_list_back L m vs lanes t.sets.told.first l)
 
 -- a file that is read, printed and packed again: the same bytes
@@ -221,14 +217,14 @@ module _ (file : List ℕ) (bytes : Below 256 file) (h : accepted (read_file_ref
   pub printed : list_to_text file ≡ value_lines (list_in file)
   printed =
       let short : length file ≤ 65536 = rw (← same_file file most bytes h) (omega (arith, file_length lanes mode (list_in file) measures)) in
-      sym (printed_values file short h)
+      sym (printed_values file (rw (le-ltb 65536 (length file) short) h))
 
   pub file_back : text_to_list (settings (header_in file).lanes (header_in file).mode (list_to_text file)) ≡ file
   file_back =
       let o = (opened file most bytes h).sound in
       let l = (held file most bytes h).list in
       let t : IsText (text_of lanes mode (list_in file)) lanes mode (list_in file) = record { sets = record { told = o.told; whole = refl }; values = l.small } in
-      ap (λ (x : List ℕ). text_to_list (settings lanes mode x)) printed ∙ text_told t (omega (arith, text_length lanes mode (list_in file) (list_few file h))) ∙ rw measures (same_file file most bytes h)
+      ap (λ (x : List ℕ). text_to_list (settings lanes mode x)) printed ∙ text_told t (omega (arith, text_length lanes mode (list_in file) (list_few file h))) ∙ rw (accepted_is _ measures) (same_file file most bytes h)
 
 -- and so the claims
 pub printed_back : PrintedBack

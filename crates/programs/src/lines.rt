@@ -1,9 +1,8 @@
 // One value a line, written and read.
-ghost use Rattle.std.specs.Prelude.{◌≡◌, cond, ◌*◌, ◌≤◌, ltb, length, set, take};
+ghost use Rattle.std.specs.Prelude.{◌≡◌, ◌*◌, ◌≤◌, length, take};
 ghost use Rattle.answers.specs.Answers.{over};
-ghost use Rattle.text.specs.Text.{same};
 ghost use Rattle.programs.specs.Lines.{value_lines};
-ghost use Rattle.programs.specs.kernel.Lines.{lines_in};
+ghost use Rattle.programs.specs.kernel.Lines.{lines_in, counted};
 
 use text::{number_line, put_number_line};
 
@@ -13,50 +12,28 @@ pub(crate) fn put_values(values: &[u32], out: &mut [u8]) -> usize
     ensures value { result ≡ length (value_lines values.now) }
     ensures out_after { out.new ≡ over (value_lines values.now) out.old }
 {
-    let mut length: usize = 0;
-    let mut i: usize = 0;
-    while i < values.len() {
-        length += put_number_line(b"", values[i], &mut out[length..]);
-        i += 1;
+    let mut length = 0;
+    for &v in values {
+        length += put_number_line(b"", v, &mut out[length..]).unwrap();
     }
     length
 }
 
-// The value at its place, where there is room for it.
-fn keep(value: u32, place: usize, values: &mut [u32])
-    ensures { values.new ≡ cond (ltb place (length values.old)) (set values.old place value) values.old }
-{
-    if place < values.len() {
-        values[place] = value;
-    }
-}
-
-// How many values there are, and whether their lines are all that there is.
-#[derive(Clone, Copy)]
-pub(crate) struct Lines {
-    pub(crate) sound: bool,
-    pub(crate) count: usize,
-}
-
-// One value a line, up to the first line that is no value's or to the end: the values at the front of `values`, as far as there is room.
-pub(crate) fn read_values(bytes: &[u8], values: &mut [u32]) -> Lines
-    ensures value { result ≡ record { sound = same (value_lines (lines_in bytes.now)) bytes.now; count = length (lines_in bytes.now) } }
+// How many values there are, one a line, where their lines are all that there is. The values of the lines up to the first that is no value's
+// are put at the front of `values`, as far as there is room.
+pub(crate) fn read_values(bytes: &[u8], values: &mut [u32]) -> Option<usize>
+    ensures value { result ≡ counted bytes.now }
     ensures values_after { values.new ≡ over (take (length values.old) (lines_in bytes.now)) values.old }
 {
-    let mut place: usize = 0;
-    let mut count: usize = 0;
-    while place < bytes.len() {
-        let line = number_line(b"", &bytes[place..]);
-        let length = line.length;
-        if length == 0 {
-            return Lines {
-                sound: false,
-                count,
-            };
+    let mut rest = bytes;
+    let mut count = 0;
+    while let Some(line) = number_line(b"", rest) {
+        // (not `values.get_mut(count)`: after it no element is known)
+        if count < values.len() {
+            values[count] = line.value;
         }
-        keep(line.value, count, &mut values[..]);
         count += 1;
-        place += length;
+        rest = &rest[line.length..];
     }
-    Lines { sound: true, count }
+    rest.is_empty().then_some(count)
 }

@@ -3,53 +3,35 @@
 // checks/programs.py makes the table, and works out the same from document 01.
 #![tactic(auto)]
 
-ghost use Rattle.std.specs.Prelude.{◌≡◌, length};
-
 use calls::run_program;
 use pieces::put_pieces;
+use programs::{list_to_text, text_to_list};
 use std::io;
-use streams::read_full;
-use tables::buffers::{first_bytes, table_room};
-use tables::line;
+use tables::buffers::first;
+use tables::for_each_line;
 use tables::words::{before, behind, letter_at};
 
 mod calls;
 mod pieces;
 
-// More bytes than an input may have.
-fn input_room() -> [u8; 65540]
-    ensures { 65540 ≡ length result }
-{
-    [0; 65540]
-}
-
-// The letter of the program, and the pieces.
+// The letter of the program, and the pieces. (There is room for more bytes than an input may have.)
 fn run_case(rt: &impl Print, text: &[u8]) -> io::Result<()> {
-    let mut bytes = input_room();
+    let mut bytes = [0; 65540];
     let size = put_pieces(text, &mut bytes);
-    run_program(rt, letter_at(text, 0), first_bytes(&bytes, size))
+    let input = first(&bytes, size);
+    match letter_at(text, 0) {
+        b'r' => run_program(rt, list_to_text, input),
+        _ => run_program(rt, text_to_list, input),
+    }
 }
 
 // A line of the table: the name up to the first blank, and the case.
 fn run_line(rt: &impl Print, line: &[u8]) -> io::Result<()> {
     rt.write_all(before(b' ', line))?;
     run_case(rt, behind(b' ', line))?;
-    line::end(rt)
-}
-
-// Every line of a text.
-fn run_all(rt: &impl Print, text: &[u8]) -> io::Result<()> {
-    let mut rest = text;
-    while 0 < rest.len() {
-        run_line(rt, before(b'\n', rest))?;
-        let next = behind(b'\n', rest);
-        rest = next;
-    }
-    Ok(())
+    println!(rt)
 }
 
 fn main(rt: HostRuntime) -> io::Result<()> {
-    let mut table = table_room();
-    let size = read_full(&mut rt.stdin(), &mut table)?;
-    run_all(&rt, &table[..size])
+    for_each_line(&mut rt.stdin(), |line| run_line(&rt, line))
 }

@@ -8,8 +8,8 @@ use tables::words::{before, behind, decimal};
 fn repeat(text: &[u8], times: usize, bytes: &mut [u8]) -> usize
     ensures { result ≤ length bytes.new }
 {
-    let mut size: usize = 0;
-    for i in 0..times {
+    let mut size = 0;
+    for _ in 0..times {
         size += decode(text, &mut bytes[size..]);
     }
     size
@@ -17,8 +17,10 @@ fn repeat(text: &[u8], times: usize, bytes: &mut [u8]) -> usize
 
 // How many times: the number behind the `*`, and once where there is none.
 fn times(piece: &[u8]) -> usize {
-    let times = decimal(behind(b'*', piece));
-    if times < 1000000 { times as usize } else { 1 }
+    match decimal(behind(b'*', piece)) {
+        times @ 0..1000000 => times as usize,
+        _ => 1,
+    }
 }
 
 // The bytes of the piece at the front of a text. Answers how many.
@@ -33,10 +35,10 @@ fn put_piece(text: &[u8], bytes: &mut [u8]) -> usize
 pub(crate) fn put_pieces(text: &[u8], bytes: &mut [u8]) -> usize
     ensures { result ≤ length bytes.new }
 {
-    let mut size: usize = 0;
-    for i in 0..text.len() {
-        if text[i] == b' ' {
-            size += put_piece(&text[i + 1..], &mut bytes[size..]);
+    let mut size = 0;
+    for (place, letter) in text.iter().enumerate() {
+        if *letter == b' ' {
+            size += put_piece(&text[place + 1..], &mut bytes[size..]);
         }
     }
     size

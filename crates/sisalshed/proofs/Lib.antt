@@ -1,4 +1,2 @@
-pub mod Matches
-pub mod Parts
 pub mod Theorems
 pub mod Determined

@@ -1,5 +1,5 @@
 -- What is claimed of what crosses to C: it loses nothing (proofs/Theorems).
-use Rattle.std.specs.Prelude.{◌≡◌, true, List, ℕ, ◌+◌, ◌≤◌, length, drop, take}
+use Rattle.std.specs.Prelude.{◌≡◌, true, List, ℕ, ◌+◌, ◌≤◌, length, drop, take, Some}
 use Rattle.modes.specs.declared.Mode.{Mode}
 use Rattle.answers.specs.declared.Refusal.{Refusal}
 use Rattle.answers.specs.Refusals.{number_of}
@@ -9,7 +9,7 @@ use Rattle.sisalshed.specs.Calls.{body_crossed}
 
 -- a mode comes back from its two numbers
 abbrev pub ModeBack : Type 0
-ModeBack = (m : Mode) → mode_of (kind_of m) (first_given m) ≡ m
+ModeBack = (m : Mode) → mode_of (kind_of m) (first_given m) ≡ Some m
 
 -- the bytes that the answer of the body call points at are the part that document 01 hands back, and go to the end of the file
 abbrev pub PartIsBody : Type 0

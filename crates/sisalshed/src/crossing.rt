@@ -1,27 +1,21 @@
 // What crosses to C and back: an enum cannot, so the mode crosses as two numbers and the refusal as its number.
 ghost use Rattle.std.specs.Prelude.{◌≡◌};
-ghost use Rattle.sisalshed.specs.Crossing.{is_kind, mode_of, kind_of, first_given, crossed, crossed_width, bad_kind};
+ghost use Rattle.sisalshed.specs.Crossing.{mode_of, kind_of, first_given, crossed, bad_kind};
 
 use crate::CAnswer;
 use answers::{Answer, Refusal};
-use blocks::Width;
 use modes::{Initial, Mode};
 
-pub(crate) fn is_kind(kind: u32) -> bool
-    ensures { result ≡ is_kind kind }
-{
-    kind < 4
-}
-
-// The mode of a kind, and strict with a number past 2.
-pub(crate) fn mode_of(kind: u32, first: u32) -> Mode
+// The mode of a kind, strict with a number for 3. There is no other kind.
+pub(crate) fn mode_of(kind: u32, first: u32) -> Option<Mode>
     ensures { result ≡ mode_of kind first }
 {
     match kind {
-        0 => Mode::Plain,
-        1 => Mode::Sorted(first),
-        2 => Mode::Strict(Initial::None),
-        _ => Mode::Strict(Initial::Number(first)),
+        0 => Some(Mode::Plain),
+        1 => Some(Mode::Sorted(first)),
+        2 => Some(Mode::Strict(Initial::None)),
+        3 => Some(Mode::Strict(Initial::Number(first))),
+        _ => None,
     }
 }
 
@@ -32,10 +26,8 @@ pub(crate) fn kind_of(mode: Mode) -> u32
     match mode {
         Mode::Plain => 0,
         Mode::Sorted(_) => 1,
-        Mode::Strict(start) => match start {
-            Initial::None => 2,
-            Initial::Number(_) => 3,
-        },
+        Mode::Strict(Initial::None) => 2,
+        Mode::Strict(Initial::Number(_)) => 3,
     }
 }
 
@@ -44,41 +36,27 @@ pub(crate) fn first_given(mode: Mode) -> u32
     ensures { result ≡ first_given mode }
 {
     match mode {
-        Mode::Plain => 0,
-        Mode::Sorted(first) => first,
-        Mode::Strict(start) => match start {
-            Initial::None => 0,
-            Initial::Number(first) => first,
-        },
+        Mode::Plain | Mode::Strict(Initial::None) => 0,
+        Mode::Sorted(first) | Mode::Strict(Initial::Number(first)) => first,
     }
 }
 
-pub(crate) fn cross(answer: Answer) -> CAnswer
-    ensures { result ≡ crossed answer }
-{
-    let refusal = answer.refusal;
-    CAnswer {
-        number: refusal.number(),
-        length: answer.length,
-    }
-}
+impl From<Answer> for CAnswer {
+    ghost from_gives = { λ answer c. c ≡ crossed answer };
 
-pub(crate) fn cross_width(width: Width) -> CAnswer
-    ensures { result ≡ crossed_width width }
-{
-    let refusal = width.refusal;
-    CAnswer {
-        number: refusal.number(),
-        length: width.width as usize,
+    fn from(answer: Answer) -> CAnswer {
+        match answer {
+            Ok(length) => CAnswer { number: 0, length },
+            Err(refusal) => CAnswer {
+                number: refusal.number(),
+                length: 0,
+            },
+        }
     }
 }
 
 pub(crate) fn bad_kind() -> CAnswer
     ensures { result ≡ bad_kind }
 {
-    let refusal = Refusal::BadHeader;
-    CAnswer {
-        number: refusal.number(),
-        length: 0,
-    }
+    CAnswer::from(Err(Refusal::BadHeader))
 }

@@ -5,13 +5,13 @@
 ghost use Rattle.std.specs.Prelude.{◌≡◌, length};
 ghost use Rattle.sisalshed.specs.Calls.{size_crossed, pack_crossed, pack_left, unpack_crossed, unpack_left, width_crossed, measure_crossed, write_list_crossed, write_list_left, read_list_crossed, read_list_left, header_crossed, body_crossed, read_file_crossed, read_file_left, write_file_crossed, write_file_left};
 
-use crossing::{bad_kind, cross, cross_width, first_given, is_kind, kind_of, mode_of};
+use crossing::{bad_kind, first_given, kind_of, mode_of};
 
 mod crossing;
 
 // The number of the refusal, and the length, the count or the width: 0 where it is refused.
 #[repr(C)]
-#[derive(Clone, Copy)]
+#[derive(Clone, Copy, Debug, PartialEq, Eq)]
 pub struct CAnswer {
     pub number: u32,
     pub length: usize,
@@ -19,7 +19,7 @@ pub struct CAnswer {
 
 // What a file's five lines say, the mode as two numbers; all 0 but the number where it is refused.
 #[repr(C)]
-#[derive(Clone, Copy)]
+#[derive(Clone, Copy, Debug, Default, PartialEq, Eq)]
 pub struct CHeader {
     pub number: u32,
     pub lanes: u32,
@@ -31,7 +31,7 @@ pub struct CHeader {
 
 // Where a body stands in its file: 0 and 0 where it is refused.
 #[repr(C)]
-#[derive(Clone, Copy)]
+#[derive(Clone, Copy, Debug, Default, PartialEq, Eq)]
 pub struct CBody {
     pub number: u32,
     pub start: usize,
@@ -43,7 +43,7 @@ pub struct CBody {
 pub extern "C" fn sisalshed_compressed_block_size(lanes: usize, width: u32) -> CAnswer
     ensures { result ≡ size_crossed lanes width }
 {
-    cross(blocks::compressed_block_size(lanes, width))
+    blocks::compressed_block_size(lanes, width).into()
 }
 
 // Pack: the payload of exactly a block of values, at the front of `compressed`.
@@ -59,17 +59,10 @@ pub extern "C" fn sisalshed_compress(
     ensures value { result ≡ pack_crossed lanes kind first decompressed.now (length compressed.old) width }
     ensures compressed_after { compressed.new ≡ pack_left lanes kind first decompressed.now compressed.old width }
 {
-    if !is_kind(kind) {
+    let Some(mode) = mode_of(kind, first) else {
         return bad_kind();
-    }
-    let answer = blocks::compress(
-        lanes,
-        mode_of(kind, first),
-        &decompressed[..],
-        &mut compressed[..],
-        width,
-    );
-    cross(answer)
+    };
+    blocks::compress(lanes, mode, decompressed, compressed, width).into()
 }
 
 // Unpack: the values of any bytes that are long enough, at the front of `decompressed`.
@@ -82,20 +75,13 @@ pub extern "C" fn sisalshed_decompress(
     decompressed: &mut [u32],
     width: u32,
 ) -> CAnswer
-    ensures value { result ≡ unpack_crossed lanes kind (length compressed.now) (length decompressed.old) width }
+    ensures value { result ≡ unpack_crossed lanes kind first (length compressed.now) (length decompressed.old) width }
     ensures decompressed_after { decompressed.new ≡ unpack_left lanes kind first compressed.now decompressed.old width }
 {
-    if !is_kind(kind) {
+    let Some(mode) = mode_of(kind, first) else {
         return bad_kind();
-    }
-    let answer = blocks::decompress(
-        lanes,
-        mode_of(kind, first),
-        &compressed[..],
-        &mut decompressed[..],
-        width,
-    );
-    cross(answer)
+    };
+    blocks::decompress(lanes, mode, compressed, decompressed, width).into()
 }
 
 // Least width: the least number of bits that exactly a block of values fits, in the length's place.
@@ -108,10 +94,12 @@ pub extern "C" fn sisalshed_num_bits(
 ) -> CAnswer
     ensures { result ≡ width_crossed lanes kind first decompressed.now }
 {
-    if !is_kind(kind) {
+    let Some(mode) = mode_of(kind, first) else {
         return bad_kind();
-    }
-    cross_width(blocks::num_bits(lanes, mode_of(kind, first), decompressed))
+    };
+    blocks::num_bits(lanes, mode, decompressed)
+        .map(|width| width as usize)
+        .into()
 }
 
 // The length of the body that a list has.
@@ -124,10 +112,10 @@ pub extern "C" fn sisalshed_measure_list(
 ) -> CAnswer
     ensures { result ≡ measure_crossed lanes kind first values.now }
 {
-    if !is_kind(kind) {
+    let Some(mode) = mode_of(kind, first) else {
         return bad_kind();
-    }
-    cross(lists::measure(lanes, mode_of(kind, first), values))
+    };
+    lists::measure(lanes, mode, values).into()
 }
 
 // Write a list: its body, at the front of `body`. Answers the body's length.
@@ -142,11 +130,10 @@ pub extern "C" fn sisalshed_write_list(
     ensures value { result ≡ write_list_crossed lanes kind first values.now (length body.old) }
     ensures body_after { body.new ≡ write_list_left lanes kind first values.now body.old }
 {
-    if !is_kind(kind) {
+    let Some(mode) = mode_of(kind, first) else {
         return bad_kind();
-    }
-    let answer = lists::write(lanes, mode_of(kind, first), &values[..], &mut body[..]);
-    cross(answer)
+    };
+    lists::write(lanes, mode, values, body).into()
 }
 
 // Read a list: the values of a body, at the front of `values`. Answers the count.
@@ -162,17 +149,10 @@ pub extern "C" fn sisalshed_read_list(
     ensures value { result ≡ read_list_crossed lanes kind first count body.now (length values.old) }
     ensures values_after { values.new ≡ read_list_left lanes kind first count body.now values.old }
 {
-    if !is_kind(kind) {
+    let Some(mode) = mode_of(kind, first) else {
         return bad_kind();
-    }
-    let answer = lists::read(
-        lanes,
-        mode_of(kind, first),
-        count,
-        &body[..],
-        &mut values[..],
-    );
-    cross(answer)
+    };
+    lists::read(lanes, mode, count, body, values).into()
 }
 
 // The header call: what the five lines of a file say, or 12.
@@ -180,17 +160,19 @@ pub extern "C" fn sisalshed_read_list(
 pub extern "C" fn sisalshed_header(file: &[u8]) -> CHeader
     ensures { result ≡ header_crossed file.now }
 {
-    let opened = files::header(file);
-    let refusal = opened.refusal;
-    let header = opened.header;
-    let mode = header.mode;
-    CHeader {
-        number: refusal.number(),
-        lanes: header.lanes,
-        kind: kind_of(mode),
-        first: first_given(mode),
-        count: header.count,
-        bytes: header.bytes,
+    match files::header(file) {
+        Ok(header) => CHeader {
+            number: 0,
+            lanes: header.lanes,
+            kind: kind_of(header.mode),
+            first: first_given(header.mode),
+            count: header.count,
+            bytes: header.bytes,
+        },
+        Err(refusal) => CHeader {
+            number: refusal.number(),
+            ..CHeader::default()
+        },
     }
 }
 
@@ -199,21 +181,16 @@ pub extern "C" fn sisalshed_header(file: &[u8]) -> CHeader
 pub extern "C" fn sisalshed_body(file: &[u8]) -> CBody
     ensures { result ≡ body_crossed file.now }
 {
-    let found = files::find_file(file);
-    let refusal = found.refusal;
-    let number = refusal.number();
-    if !refusal.is_accepted() {
-        return CBody {
-            number,
-            start: 0,
-            length: 0,
-        };
-    }
-    let start = found.start;
-    CBody {
-        number,
-        start,
-        length: file.len() - start,
+    match files::find_file(file) {
+        Ok(found) => CBody {
+            number: 0,
+            start: found.start,
+            length: file.len() - found.start,
+        },
+        Err(refusal) => CBody {
+            number: refusal.number(),
+            ..CBody::default()
+        },
     }
 }
 
@@ -223,8 +200,7 @@ pub extern "C" fn sisalshed_read_file(file: &[u8], values: &mut [u32]) -> CAnswe
     ensures value { result ≡ read_file_crossed file.now (length values.old) }
     ensures values_after { values.new ≡ read_file_left file.now values.old }
 {
-    let answer = files::read(&file[..], &mut values[..]);
-    cross(answer)
+    files::read(file, values).into()
 }
 
 // Write a file: the header and the body of a list, at the front of `file`. Answers the file's length.
@@ -239,9 +215,8 @@ pub extern "C" fn sisalshed_write_file(
     ensures value { result ≡ write_file_crossed lanes kind first values.now (length file.old) }
     ensures file_after { file.new ≡ write_file_left lanes kind first values.now file.old }
 {
-    if !is_kind(kind) {
+    let Some(mode) = mode_of(kind, first) else {
         return bad_kind();
-    }
-    let answer = files::write(lanes, mode_of(kind, first), &values[..], &mut file[..]);
-    cross(answer)
+    };
+    files::write(lanes, mode, values, file).into()
 }

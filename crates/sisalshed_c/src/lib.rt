@@ -41,7 +41,7 @@ pub extern "C" fn sisalshed_decompress(
     decompressed: &mut [u32],
     width: u32,
 ) -> CAnswer
-    ensures value { result ≡ unpack_crossed lanes kind (length compressed.now) (length decompressed.old) width }
+    ensures value { result ≡ unpack_crossed lanes kind first (length compressed.now) (length decompressed.old) width }
     ensures decompressed_after { decompressed.new ≡ unpack_left lanes kind first compressed.now decompressed.old width }
 {
     sisalshed::sisalshed_decompress(lanes, kind, first, compressed, decompressed, width)

@@ -1,10 +1,10 @@
 // Standard input and standard output, whole; and arguments, which nobody reads.
 #![tactic(auto)]
 
-ghost use Rattle.std.specs.Prelude.{◌≡◌, ◌<◌, ◌≤◌, IfOk, length, take};
+ghost use Rattle.std.specs.Prelude.{◌≡◌, ℕ, ◌<◌, ◌≤◌, IfOk, length, take};
 ghost use Rattle.std.specs.Io.{ReadsAtMost};
 ghost use Rattle.std.specs.Io.KnownBytes.{Consumes, IsAtEnd};
-ghost use Rattle.streams.specs.Inputs.{IsWhole};
+ghost use Rattle.streams.specs.Inputs.{IsWhole, IsSeen};
 
 use std::env::{Env, FillError};
 use std::io;
@@ -16,13 +16,12 @@ pub fn read_full<R: Read>(reader: &mut R, bytes: &mut [u8]) -> io::Result<usize>
     ensures front { IfOk result (λ n. Consumes (R.remaining reader.old) (R.remaining reader.new) (take n bytes.new)) }
     ensures end { IfOk result (λ n. n < length bytes.new → IsAtEnd (R.remaining reader.new)) }
 {
-    let mut done: usize = 0;
+    let mut done = 0;
     while done < bytes.len() {
-        let more = reader.read(&mut bytes[done..])?;
-        if more == 0 {
-            return Ok(done);
+        match reader.read(&mut bytes[done..])? {
+            0 => break,
+            more => done += more,
         }
-        done += more;
     }
     Ok(done)
 }
@@ -32,11 +31,9 @@ pub fn read_full<R: Read>(reader: &mut R, bytes: &mut [u8]) -> io::Result<usize>
 pub fn read_input<R: Read>(reader: &mut R, bytes: &mut [u8]) -> usize
     ensures in_bounds { (result ≤ length bytes.new) × (result ≡ length (take result bytes.new)) }
     ensures whole { result < length bytes.new → IsWhole (R.remaining reader.old) (take result bytes.new) }
+    ensures seen { (limit : ℕ) → limit < length bytes.new → IsSeen limit (R.remaining reader.old) (take result bytes.new) }
 {
-    match read_full(reader, bytes) {
-        Ok(size) => size,
-        Err(_) => bytes.len(),
-    }
+    read_full(reader, bytes).unwrap_or(bytes.len())
 }
 
 // Writes all of the bytes to standard output, however little a write takes. Where a write fails, says so on standard error.

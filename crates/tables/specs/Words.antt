@@ -1,18 +1,18 @@
 -- The words of a line of a table: what the programs of checks are given. Nothing of document 01.
-use Rattle.std.specs.Prelude.{ℕ, zero, suc, ◌+◌, ◌*◌, ◌%◌, Bool, false, cond, List, [], ◌∷◌, take, drop, ◌==◌}
+use Rattle.std.specs.Prelude.{ℕ, zero, suc, ◌+◌, ◌*◌, ◌%◌, Bool, false, cond, List, [], ◌∷◌, ◌==◌, length}
+use Rattle.std.specs.List.{fold, before_first, after_first}
 use Rattle.layout.specs.Layout.{at}
 use Rattle.modes.specs.declared.Initial.{Initial}
 use Rattle.modes.specs.declared.Initial.TheVariants.{None, Number}
 use Rattle.modes.specs.declared.Mode.{Mode}
 use Rattle.modes.specs.declared.Mode.TheVariants.{Plain, Sorted, Strict}
-use Rattle.tables.specs.Tables.{place_of}
 
--- what stands before the first place of a letter, and behind it
+-- what stands before the first place of a letter, or all where it has none, and what stands behind it
 unfoldable pub before_of : ℕ → List ℕ → List ℕ
-before_of letter text = take (place_of letter text) text
+before_of letter text = before_first (λ x. x == letter) text
 
 unfoldable pub behind_of : ℕ → List ℕ → List ℕ
-behind_of letter text = drop (place_of letter text + 1) text
+behind_of letter text = after_first (λ x. x == letter) text
 
 -- a blank and then the letter
 unfoldable pub is_name : ℕ → List ℕ → Bool
@@ -31,13 +31,8 @@ value_of letter line = before_of 32 (behind_of 61 (word_of letter line))
 unfoldable pub with_digit : ℕ → ℕ → ℕ
 with_digit n digit = (n % 1844674407370955162 * 10 + digit % 48) % 18446744073709551616
 
-unfoldable pub digits_from : ℕ → List ℕ → ℕ
-digits_from n [] = n
-digits_from n (x ∷ xs) = digits_from (with_digit n x) xs
-
 unfoldable pub decimal_of : List ℕ → ℕ
-decimal_of [] = 18446744073709551615
-decimal_of (x ∷ xs) = digits_from 0 (x ∷ xs)
+decimal_of text = cond (length text == 0) 18446744073709551615 (fold with_digit 0 text)
 
 -- the numbers of a word, `:` between them
 unfoldable pub amount_of : ℕ → List ℕ → ℕ
@@ -61,8 +56,7 @@ mode_in line =
 
 -- the next number of a list with `,` between the numbers, and behind the last a step more than the number before
 unfoldable pub next_listed : List ℕ → ℕ → ℕ → ℕ
-next_listed [] step before = narrowed (before + step)
-next_listed (x ∷ xs) step before = narrowed (decimal_of (before_of 44 (x ∷ xs)))
+next_listed text step before = cond (length text == 0) (narrowed (before + step)) (narrowed (decimal_of (before_of 44 text)))
 
 -- the text from number k on
 unfoldable pub list_from : List ℕ → ℕ → List ℕ

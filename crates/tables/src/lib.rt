@@ -1,65 +1,67 @@
-// What the programs of checks share that read a table on standard input: checksums, bytes in hex, the words of a line, buffers that are full of
-// marks, and what is written of an answer.
+// What the programs of checks share that read a table on standard input: its lines, checksums, bytes in hex, the words of a line, buffers that
+// are full of marks, and what is written of an answer.
 #![tactic(auto)]
 
-ghost use Rattle.std.specs.Prelude.{◌≡◌, ◌+◌, ◌*◌, ◌/◌, ◌%◌, ◌<◌, ◌≤◌, min, length, take};
+ghost use Rattle.std.specs.Prelude.{◌≡◌, ℕ, ◌+◌, ◌*◌, ◌/◌, ◌%◌, ◌<◌, ◌≤◌, min, IfOk, List, length, take};
+ghost use Rattle.std.specs.Fn.{CalledAt};
+ghost use Rattle.std.specs.Io.KnownBytes.{Consumes};
 ghost use Rattle.layout.specs.Layout.{table};
 ghost use Rattle.answers.specs.Answers.{over};
-ghost use Rattle.tables.specs.Tables.{checksum, sum_from, digit_of, hex_byte, noise_after, place_of};
+ghost use Rattle.tables.specs.Tables.{RanOn, Converts, sum_from, digit_of, hex_byte, noise_after};
 
-use lanes::wide;
+use std::io;
+use std::io::Read;
+use streams::read_full;
+use words::{before, behind};
 
 pub mod buffers;
 pub mod line;
 pub mod words;
 
-pub fn lesser(a: usize, b: usize) -> usize
-    ensures value { result ≡ min a b }
-    ensures upper_bound { (result ≤ a) × (result ≤ b) }
-{
-    if a < b { a } else { b }
-}
+// More bytes than a table has.
+const ROOM: usize = 262144;
 
-// A checksum with one more number in it.
-fn added(sum: u32, value: u32) -> u32
-    ensures { result ≡ (sum * 31 + value) % 4294967296 }
+// Runs on each line of a text, until one fails.
+fn for_each_line_of<F: FnMut(&[u8]) -> io::Result<()>>(text: &[u8], mut run: F) -> io::Result<()>
+    requires { F.IsAlwaysCallable run }
+    ensures { IfOk result (λ _. RanOn (CalledAt F.FnMut) run text.now) }
 {
-    ((sum as u64 * 31 + value as u64) % 4294967296) as u32
-}
-
-// A checksum with some bytes more in it.
-#[tactic(auto, using(crate::proofs::Going::sum_more, crate::proofs::Going::sum_end))]
-pub fn bytes_sum_from(start: u32, bytes: &[u8]) -> u32
-    ensures { result ≡ sum_from start bytes.now }
-{
-    let mut sum: u32 = start;
-    let mut i: usize = 0;
-    while i < bytes.len() {
-        sum = added(sum, wide(bytes[i]));
-        i += 1;
+    let mut rest = text;
+    while !rest.is_empty() {
+        run(before(b'\n', rest))?;
+        rest = behind(b'\n', rest);
     }
-    sum
+    Ok(())
 }
 
-// The checksum of some bytes.
-pub fn bytes_sum(bytes: &[u8]) -> u32
-    ensures { result ≡ checksum bytes.now }
+// Reads a table, and runs on each of its lines, until one fails.
+pub fn for_each_line<R: Read, F: FnMut(&[u8]) -> io::Result<()>>(
+    table: &mut R,
+    run: F,
+) -> io::Result<()>
+    requires { F.IsAlwaysCallable run }
+    ensures { IfOk result (λ _. (text : List ℕ) × Consumes (R.remaining table.old) (R.remaining table.new) text × RanOn (CalledAt F.FnMut) run text) }
 {
-    bytes_sum_from(0, bytes)
+    let mut room = [0; ROOM];
+    let size = read_full(table, &mut room)?;
+    for_each_line_of(&room[..size], run)
 }
 
-// The checksum of some values.
-#[tactic(auto, using(crate::proofs::Going::sum_more, crate::proofs::Going::sum_end))]
-pub fn values_sum(values: &[u32]) -> u32
-    ensures { result ≡ checksum values.now }
+// A checksum with some bytes or values more in it.
+#[tactic(auto, unfolding(crate::specs::Tables::sum_from))]
+pub fn checksum_from<T: Copy + Into<u32>>(start: u32, items: &[T]) -> u32
+    ensures { (number : T → ℕ) → Converts T.converts number → result ≡ sum_from number start items.now }
 {
-    let mut sum: u32 = 0;
-    let mut i: usize = 0;
-    while i < values.len() {
-        sum = added(sum, values[i]);
-        i += 1;
-    }
-    sum
+    items.iter().fold(start, |sum, item| {
+        sum.wrapping_mul(31).wrapping_add((*item).into())
+    })
+}
+
+// The checksum of some bytes or values.
+pub fn checksum<T: Copy + Into<u32>>(items: &[T]) -> u32
+    ensures { (number : T → ℕ) → Converts T.converts number → result ≡ sum_from number 0 items.now }
+{
+    checksum_from(0, items)
 }
 
 // What a letter of a hex number stands for; any other is 0.
@@ -67,19 +69,11 @@ fn digit(letter: u8) -> u8
     ensures value { result ≡ digit_of letter }
     ensures upper_bound { result < 16 }
 {
-    if letter < 48 {
-        return 0;
+    match letter {
+        b'0'..=b'9' => letter - b'0',
+        b'a'..=b'f' => letter - b'a' + 10,
+        _ => 0,
     }
-    if letter < 58 {
-        return letter - 48;
-    }
-    if letter < 97 {
-        return 0;
-    }
-    if letter < 103 {
-        return letter - 87;
-    }
-    0
 }
 
 // The bytes that a hex number stands for, at the front of `bytes`, no more than there is room for. Answers how many.
@@ -88,34 +82,16 @@ pub fn decode(hex: &[u8], bytes: &mut [u8]) -> usize
     ensures bytes_after { bytes.new ≡ over (table (hex_byte hex.now) (min (length hex.now / 2) (length bytes.old))) bytes.old }
     ensures upper_bound { (result ≤ length bytes.new) × (result ≡ length (take result bytes.new)) }
 {
-    let count = lesser(hex.len() / 2, bytes.len());
-    let mut i: usize = 0;
-    while i < count {
+    let count = (hex.len() / 2).min(bytes.len());
+    for i in 0..count {
         bytes[i] = digit(hex[2 * i]) * 16 + digit(hex[2 * i + 1]);
-        i += 1;
     }
     count
-}
-
-// Where a letter stands first, and the end of the text where it does not.
-#[tactic(auto, using(crate::proofs::Going::place_here, crate::proofs::Going::place_more, crate::proofs::Going::place_end))]
-pub fn place_of(letter: u8, text: &[u8]) -> usize
-    ensures value { result ≡ place_of letter text.now }
-    ensures upper_bound { (result ≤ length text.now) × (result ≡ length (take result text.now)) }
-{
-    let mut i: usize = 0;
-    while i < text.len() {
-        if text[i] == letter {
-            return i;
-        }
-        i += 1;
-    }
-    i
 }
 
 // The next number of a small generator.
 pub fn noise_after(number: u32) -> u32
     ensures { result ≡ noise_after number }
 {
-    ((number as u64 * 1103515245 + 12345) % 4294967296) as u32
+    number.wrapping_mul(1103515245).wrapping_add(12345)
 }

@@ -1,125 +1,80 @@
 // What is written behind the text of a case.
 ghost use Rattle.std.specs.Prelude.{◌≡◌};
-ghost use Rattle.answers.specs.Refusals.{number_of};
-ghost use Rattle.tables.specs.Numbers.{no_numbers, with_number};
+ghost use Rattle.answers.specs.Answers.{number_in};
+ghost use Rattle.tables.specs.Shown.{answer_text, outcome_text};
 
-use crate::{lesser, place_of, values_sum};
-use answers::Answer;
-use std::io;
+use crate::buffers::first;
+use crate::checksum;
+use answers::{Answer, Refusal};
+use std::fmt;
 
-// A word, which comes with the blank before it and the `=` behind its name, and a number.
-pub fn named(rt: &impl Print, word: &[u8], value: u64) -> io::Result<()> {
-    rt.write_all(word)?;
-    rt.print(value)
-}
-
-// Up to twelve numbers that are to be written, and how many there are.
-#[derive(Drop)]
-pub struct Numbers {
-    items: [u64; 12],
-    count: usize,
-}
-
-pub fn no_numbers() -> Numbers
-    ensures { result ≡ no_numbers }
+// The number of the refusal, and 0 where there is none.
+pub fn number<T>(answer: &Result<T, Refusal>) -> u32
+    ensures { result ≡ number_in answer.now }
 {
-    Numbers {
-        items: [0; 12],
-        count: 0,
+    match answer {
+        Ok(_) => 0,
+        Err(refusal) => refusal.number(),
     }
 }
 
-impl Numbers {
-    // With one number more.
-    #[tactic(auto, unfolding(crate::specs::Numbers::with_number))]
-    pub fn with(self, number: u64) -> Numbers
-        ensures { result ≡ with_number self number }
-    {
-        let mut items = self.items;
-        let count = self.count % 12;
-        items[count] = number;
-        Numbers {
-            items,
-            count: count + 1,
+// What a call answers: 0 and its length, or the number of its refusal and 0.
+#[derive(Clone, Copy)]
+pub struct Answered<T>(pub Result<T, Refusal>);
+
+impl<T: fmt::Display> fmt::Display for Answered<T> {
+    ghost output = { λ a. answer_text T.output a.0 };
+
+    fn fmt<W: fmt::Write>(&self, f: &mut fmt::Formatter<W>) -> fmt::Result {
+        match &self.0 {
+            Ok(length) => write!(f, "0,{length}"),
+            Err(refusal) => write!(f, "{},0", refusal.number()),
         }
     }
+}
 
-    // With one value more.
-    pub fn with_value(self, value: u32) -> Numbers
-        ensures { result ≡ with_number self value }
-    {
-        self.with(value as u64)
+// What a call answers, and the checksum of its output afterwards.
+#[derive(Clone, Copy)]
+pub struct Outcome {
+    pub answer: Answer,
+    pub sum: u32,
+}
+
+impl fmt::Display for Outcome {
+    ghost output = { λ o. outcome_text o.answer o.sum };
+
+    fn fmt<W: fmt::Write>(&self, f: &mut fmt::Formatter<W>) -> fmt::Result {
+        write!(f, "{},{}", Answered(self.answer), self.sum)
     }
+}
 
-    // With what a call answers, the number of the refusal and the length.
-    pub fn with_answer(self, value: Answer) -> Numbers
-        ensures { result ≡ with_number (with_number self (number_of value.refusal)) value.length }
-    {
-        let refusal = value.refusal;
-        let numbers = self.with_value(refusal.number());
-        numbers.with(value.length as u64)
-    }
+// Bytes in hex.
+#[derive(Clone, Copy)]
+pub struct Hex<'a>(pub &'a [u8]);
 
-    // A text in which a `#` stands for each number in turn.
-    pub fn write(self, rt: &impl Print, text: &[u8]) -> io::Result<()> {
-        let items = self.items;
-        let mut rest = text;
-        let mut k: usize = 0;
-        while 0 < rest.len() {
-            let end = place_of(b'#', rest);
-            rt.write_all(&rest[..end])?;
-            if end == rest.len() {
-                return Ok(());
-            }
-            rt.print(items[k % 12])?;
-            rest = &rest[end + 1..];
-            k += 1;
+impl<'a> fmt::Display for Hex<'a> {
+    fn fmt<W: fmt::Write>(&self, f: &mut fmt::Formatter<W>) -> fmt::Result {
+        for byte in self.0 {
+            write!(f, "{byte:02x}")?;
         }
         Ok(())
     }
 }
 
-// A word and what a call answers, the number of the refusal and the length.
-pub fn answer(rt: &impl Print, word: &[u8], value: Answer) -> io::Result<()> {
-    let refusal = value.refusal;
-    named(rt, word, refusal.number() as u64)?;
-    named(rt, b",", value.length as u64)
+// The checksum of some values, and the first so many of them.
+#[derive(Clone, Copy)]
+pub struct Excerpt<'a> {
+    pub values: &'a [u32],
+    pub shown: usize,
 }
 
-// And the checksum of its output afterwards.
-pub fn answer_and_sum(rt: &impl Print, word: &[u8], value: Answer, sum: u32) -> io::Result<()> {
-    answer(rt, word, value)?;
-    named(rt, b",", sum as u64)
-}
-
-fn item(rt: &impl Print, place: usize, value: u32) -> io::Result<()> {
-    if place == 0 {
-        named(rt, b":", value as u64)
-    } else {
-        named(rt, b",", value as u64)
+impl<'a> fmt::Display for Excerpt<'a> {
+    fn fmt<W: fmt::Write>(&self, f: &mut fmt::Formatter<W>) -> fmt::Result {
+        write!(f, "{}", checksum(self.values))?;
+        for (place, value) in first(self.values, self.shown).iter().enumerate() {
+            let before = if place == 0 { ':' } else { ',' };
+            write!(f, "{before}{value}")?;
+        }
+        Ok(())
     }
-}
-
-// A word and the checksum of some values, and the first of them, no more than `shown`.
-pub fn list(rt: &impl Print, word: &[u8], values: &[u32], shown: usize) -> io::Result<()> {
-    named(rt, word, values_sum(values) as u64)?;
-    for i in 0..lesser(shown, values.len()) {
-        item(rt, i, values[i])?;
-    }
-    Ok(())
-}
-
-// A word and some bytes in hex.
-pub fn hex(rt: &impl Print, word: &[u8], bytes: &[u8]) -> io::Result<()> {
-    rt.write_all(word)?;
-    for i in 0..bytes.len() {
-        let byte = bytes[i];
-        print!(rt; "{byte:02x}")?;
-    }
-    Ok(())
-}
-
-// The end of a line.
-pub fn end(rt: &impl Print) -> io::Result<()> {
-    rt.write_all(b"\n")
 }

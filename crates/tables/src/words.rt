@@ -1,18 +1,27 @@
 // The words of a line of a table. A word is a blank, a name, `=`, and a value: a number, two numbers with `:` between them, numbers with `,`
 // between them, or letters. The first letter of its name tells a word from the others of its line.
-ghost use Rattle.std.specs.Prelude.{◌≡◌, ◌+◌, ◌-◌, ◌*◌, ◌%◌, ◌<◌, ◌≤◌, length, drop};
+ghost use Rattle.std.specs.Prelude.{◌≡◌, ◌+◌, ◌-◌, ◌*◌, ◌%◌, ◌<◌, ◌≤◌, ◌==◌, length};
 ghost use Rattle.layout.specs.Layout.{at, table};
+ghost use Rattle.std.specs.List.{position_or_len};
 ghost use Rattle.tables.specs.Words.{before_of, behind_of, is_name, word_of, value_of, with_digit, decimal_of, amount_of, second_of, initial_in, mode_in, next_listed, listed};
 
-use crate::place_of;
 use modes::{Initial, Mode};
-use std::num::{wrapping_add_u32, wrapping_add_u64};
 
 // The letter at a place, and 0 where there is none.
 pub fn letter_at(text: &[u8], place: usize) -> u8
     ensures { result ≡ at text.now place }
 {
-    if place < text.len() { text[place] } else { 0 }
+    text.get(place).copied().unwrap_or(0)
+}
+
+// Where a letter stands first, and the end of the text where it does not.
+fn place_of(letter: u8, text: &[u8]) -> usize
+    ensures value { result ≡ position_or_len (λ x. x == letter) text.now }
+    ensures upper_bound { result ≤ length text.now }
+{
+    text.iter()
+        .position(|other| *other == letter)
+        .unwrap_or(text.len())
 }
 
 // What stands before the first place of a letter, and all where it has none.
@@ -20,8 +29,7 @@ pub fn letter_at(text: &[u8], place: usize) -> u8
 pub fn before(letter: u8, text: &[u8]) -> &[u8]
     ensures { result.now ≡ before_of letter text.now }
 {
-    let end = place_of(letter, text);
-    &text[..end]
+    &text[..place_of(letter, text)]
 }
 
 // What stands behind it, and nothing where it has none.
@@ -30,38 +38,30 @@ pub fn behind(letter: u8, text: &[u8]) -> &[u8]
     ensures result_value { result.now ≡ behind_of letter text.now }
     ensures result_in_bounds { length result.now ≤ length text.now - 1 }
 {
-    let end = place_of(letter, text);
-    if end < text.len() {
-        return &text[end + 1..];
-    }
-    &text[end..]
+    text.get(place_of(letter, text) + 1..).unwrap_or(&[])
 }
 
-// Whether there is a blank at a place and behind it a name that begins with a letter.
-#[tactic(auto, using(crate::proofs::Going::name_is))]
-fn is_name(letter: u8, text: &[u8], place: usize) -> bool
-    requires { place < length text.now }
-    ensures { result ≡ is_name letter (drop place text.now) }
+// Whether a text begins with a blank and behind it a name that begins with a letter.
+#[tactic(auto, unfolding(crate::specs::Words::is_name))]
+fn is_name(letter: u8, text: &[u8]) -> bool
+    ensures { result ≡ is_name letter text.now }
 {
-    if text[place] == b' ' {
-        return letter_at(text, place + 1) == letter;
-    }
-    false
+    letter_at(text, 0) == b' ' && letter_at(text, 1) == letter
 }
 
 // The line from the name on that begins with a letter.
-#[tactic(auto, using(crate::proofs::Going::word_here, crate::proofs::Going::word_more, crate::proofs::Going::word_end, answers::proofs::Parts::part_is))]
+#[tactic(auto, unfolding(crate::specs::Words::word_of))]
 fn word(letter: u8, line: &[u8]) -> &[u8]
     ensures { result.now ≡ word_of letter line.now }
 {
-    let mut i: usize = 0;
-    while i < line.len() {
-        if is_name(letter, line, i) {
-            return &line[i + 1..];
+    let mut rest = line;
+    while let Some((_, behind_it)) = rest.split_first() {
+        if is_name(letter, rest) {
+            return behind_it;
         }
-        i += 1;
+        rest = behind_it;
     }
-    &line[i..]
+    rest
 }
 
 // The value of the word whose name begins with a letter, and nothing where there is no such word.
@@ -77,24 +77,19 @@ pub fn value(letter: u8, line: &[u8]) -> &[u8]
 fn with_digit(number: u64, digit: u8) -> u64
     ensures { result ≡ with_digit number digit }
 {
-    wrapping_add_u64(number % 1844674407370955162 * 10, digit as u64 % 48)
+    (number % 1844674407370955162 * 10).wrapping_add(u64::from(digit % 48))
 }
 
 // The number that a text is the digits of, and the largest where there are none.
-#[tactic(auto, using(crate::proofs::Going::decimal_none, crate::proofs::Going::decimal_some, crate::proofs::Going::digits_more, crate::proofs::Going::digits_end))]
+#[tactic(auto, unfolding(crate::specs::Words::decimal_of))]
 pub fn decimal(text: &[u8]) -> u64
     ensures { result ≡ decimal_of text.now }
 {
-    if text.len() == 0 {
-        return 18446744073709551615;
+    if text.is_empty() {
+        return u64::MAX;
     }
-    let mut number: u64 = 0;
-    let mut i: usize = 0;
-    while i < text.len() {
-        number = with_digit(number, text[i]);
-        i += 1;
-    }
-    number
+    text.iter()
+        .fold(0, |number, digit| with_digit(number, *digit))
 }
 
 // The number of a word, or the first of its two numbers. The largest number stands for a word that is not there.
@@ -146,14 +141,15 @@ pub fn mode(line: &[u8]) -> Mode
 }
 
 // The next of the values that a text lists: the number up to the next `,`, and where the text has ended, a step more than the value before.
-#[tactic(auto, using(crate::proofs::Going::listed_none, crate::proofs::Going::listed_some))]
+#[tactic(auto, unfolding(crate::specs::Words::next_listed))]
 fn next_listed(text: &[u8], step: u32, previous: u32) -> u32
     ensures { result ≡ next_listed text.now step previous }
 {
-    if text.len() == 0 {
-        return wrapping_add_u32(previous, step);
+    if text.is_empty() {
+        previous.wrapping_add(step)
+    } else {
+        narrow(decimal(before(b',', text)))
     }
-    narrow(decimal(before(b',', text)))
 }
 
 // Fills `values` with the numbers that a text lists, `,` between them, and then with numbers that go on by a step and wrap.
@@ -161,14 +157,11 @@ pub fn put_values(text: &[u8], step: u32, values: &mut [u32])
     ensures { values.new ≡ table (listed text.now step) (length values.old) }
 {
     let mut rest = text;
-    let mut value: u32 = 0;
-    let mut k: usize = 0;
-    while k < values.len() {
-        value = next_listed(rest, step, value);
-        values[k] = value;
-        let behind_it = behind(b',', rest);
-        rest = behind_it;
-        k += 1;
+    let mut previous = 0;
+    for value in values.iter_mut() {
+        previous = next_listed(rest, step, previous);
+        *value = previous;
+        rest = behind(b',', rest);
     }
 }
 
@@ -177,7 +170,7 @@ pub fn given_values(line: &[u8]) -> [u32; 4104]
     ensures value { result ≡ table (listed (value_of 103 line.now) (amount_of 115 line.now % 4294967296)) 4104 }
     ensures len { 4104 ≡ length result }
 {
-    let mut values = [0u32; 4104];
+    let mut values = [0; 4104];
     put_values(value(b'g', line), narrow(amount(b's', line)), &mut values);
     values
 }

@@ -9,12 +9,7 @@ use lib.ListN.{length, take, get_or, get_or-append}
 use lib.Seq.{get_or_at, take-suc, take-length}
 use Rattle.text.specs.Text.{digits, places, decimal, value_from}
 use Rattle.text.specs.Claims.{Decimals, OneDecimal}
-use Rattle.text.proofs.Spelling.{power_some}
-use Rattle.text.proofs.Decimals.{value_more, length_digits, digits_front, places_one, places_some, places_enough, places_least, decimal_value}
-
-one_digit : (n : ℕ) → n < 10 → decimal n ≡ (48 + n) ∷ []
-unfolding decimal digits
-one_digit n h = rw (places_one 9 n h, mod-eq_of_lt h)
+use Rattle.text.proofs.Decimals.{value_more, length_digits, digits_front, places_some, places_enough, places_least, power_some, decimal_one, decimal_value}
 
 -- the highest of k + 1 digits, where n has no fewer and no more
 top_digit : (n k : ℕ) → 10 ^ k ≤ n → n < 10 ^ suc k → 49 ≤ get_or (digits (suc k) n) 0 0
@@ -40,7 +35,7 @@ is_decimal n h =
     record {
       each = λ k lt. each_digit (places 9 n) n k (rw length_digits at lt);
       value = decimal_value n h;
-      one = one_digit n;
+      one = decimal_one n;
       front = λ big. go (places 9 n) (places_some 9 n) (places_least 9 n (omega arith)) (places_enough 9 n (omega arith));
     }
   where
@@ -110,5 +105,5 @@ one_decimal n t h d = go (dec_lt n 10)
         sym e ∙ places_are j n h (omega arith) low high
 
     go : Dec (n < 10) → t ≡ digits (places 9 n) n
-    go (yes lt) = d.one lt ∙ sym (one_digit n lt)
+    go (yes lt) = d.one lt ∙ sym (decimal_one n lt)
     go (no ge) = sym again ∙ ap (λ (k : ℕ). digits k n) (many (length t) refl (omega arith))

@@ -6,9 +6,10 @@ use native.Mathlib.Nat.{pow-suc, pow-succ', div-div-eq-div-mul, div-lt_iff_lt-mu
 use native.Mathlib.Numerals.{add-one}
 use native.Mathlib.Omega.{arith}
 use native.Mathlib.Decide.{dec_lt}
-use borrow.Author.Tests.{lt-ltb, le-ltb, le-leb, lt-leb}
+use borrow.Author.Tests.{lt-ltb, le-ltb, le-leb}
 use lib.ListN.{length, length-append}
-use Rattle.text.specs.Text.{digits, places, decimal, fitted, leading, value_from, leading_number}
+use Rattle.std.specs.Prelude.{Some}
+use Rattle.text.specs.Text.{digits, places, decimal, fitted, fitted_length, leading, value_from, leading_number}
 
 -- digits
 
@@ -40,6 +41,10 @@ value_digits (suc k) n h =
     value_more 0 (digits k (n / 10)) (48 + n % 10) ∙ rw (value_digits k (n / 10) less) (omega arith)
 
 -- as many as are needed, and no more
+
+pub power_some : (k : ℕ) → 0 < 10 ^ k
+power_some zero = omega arith
+power_some (suc k) = rw pow-suc (omega (arith, power_some k))
 
 pub places_one : (more n : ℕ) → n < 10 → places more n ≡ 1
 unfolding places
@@ -114,6 +119,19 @@ pub decimal_some : (n : ℕ) → 0 < length (decimal n)
 unfolding decimal
 decimal_some n = rw (length_digits (places 9 n) n) (places_some 9 n)
 
+pub decimal_one : (n : ℕ) → n < 10 → decimal n ≡ (48 + n) ∷ []
+unfolding decimal digits
+decimal_one n h = rw (places_one 9 n h, mod-eq_of_lt h)
+
+-- its first digit in front
+pub decimal_front : (n : ℕ) → (d : ℕ) × ((rest : List ℕ) × ((d ≤ 57) × (decimal n ≡ d ∷ rest)))
+unfolding decimal
+decimal_front n = go (places 9 n) (places_some 9 n)
+  where
+    go : (k : ℕ) → 0 < k → (d : ℕ) × ((rest : List ℕ) × ((d ≤ 57) × (digits k n ≡ d ∷ rest)))
+    go zero some = absurd (omega arith)
+    go (suc k) some = (48 + n / 10 ^ k % 10, (digits k n, (omega arith, digits_front k n)))
+
 pub decimal_value : (n : ℕ) → n < 2 ^ 32 → value_from 0 (decimal n) ≡ n
 unfolding decimal
 decimal_value n h = value_digits (places 9 n) n (places_enough 9 n (omega arith))
@@ -139,5 +157,5 @@ number_back n rest h =
 pub fitted_all : (t before : List ℕ) → length t ≤ length before → fitted t before ≡ t
 fitted_all t before h = rw (le-leb (length t) (length before) h)
 
-pub fitted_none : (t before : List ℕ) → length before < length t → fitted t before ≡ []
-fitted_none t before h = rw (lt-leb (length t) (length before) h)
+pub fitted_length_all : (t before : List ℕ) → length t ≤ length before → fitted_length t before ≡ Some (length t)
+fitted_length_all t before h = rw (le-leb (length t) (length before) h)

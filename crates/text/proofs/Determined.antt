@@ -43,10 +43,10 @@ begins_asks_nothing : AsksNothing begins_kinds.ps begins.Pre
 begins_asks_nothing κs a = tt
 
 begins_determined : AnswerDetermined begins_kinds.ps begins_kinds.r begins.Post
-begins_determined κs a z z' e e' p q = p ∙ sym q
+begins_determined κs a z z' e e' p q = p.0 ∙ sym q.0
 
 number_line_asks_nothing : AsksNothing number_line_kinds.ps number_line.Pre
 number_line_asks_nothing κs a = tt
 
 number_line_determined : AnswerDetermined number_line_kinds.ps number_line_kinds.r number_line.Post
-number_line_determined κs a z z' e e' p q = p ∙ sym q
+number_line_determined κs a z z' e e' p q = p.0 ∙ sym q.0

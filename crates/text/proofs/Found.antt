@@ -1,16 +1,22 @@
 -- The line of a name and a number at the front of some bytes: what is found is there, and what is there is found.
 use mathlib.Core.Path.{◌≡◌, refl, sym, ◌∙◌, ap}
-use mathlib.Core.Bool.{Bool, true, false, ◌&&◌}
+use mathlib.Core.Bool.{Bool, true, false, cond, ◌&&◌}
 use mathlib.Core.List.{List, [], ◌∷◌, ◌++◌}
-use Prim.Native.Nat.{ℕ, ◌+◌, ◌^◌, ◌≤◌, ◌<◌}
+use Prim.Native.Nat.{ℕ, ◌-◌, ◌^◌, ◌≤◌, ◌<◌}
 use native.Mathlib.Nat.{mod-lt}
 use native.Mathlib.Omega.{arith}
-use lib.ListN.{length, drop, length-append}
+use lib.Dec.{eqb}
+use lib.ListN.{length, take, drop, length-drop}
 use lib.Seq.{drop_at}
+use Rattle.std.proofs.Math.Bool.{and-false}
+use Rattle.std.specs.Prelude.{Option, Some, None}
+use Rattle.std.specs.Cmp.Lexicographic.{pointwise}
+use Rattle.std.specs.Fmt as std
 use Rattle.text.specs.declared.Numeral.{Numeral}
 use Rattle.text.specs.Text.{decimal, numbered, begins, leading_number, number_line}
 use Rattle.text.proofs.Decimals.{number_back}
-use Rattle.text.proofs.Beginnings.{begins_whole, begins_within, begins_append, Stands}
+use Rattle.text.proofs.Printed.{printed}
+use Rattle.text.proofs.Beginnings.{strips_begins, begins_whole, begins_within, begins_append, Stands}
 use Rattle.text.proofs.Lines.{line_length, numbered_rest}
 
 -- bs begins with the line of a name and a number, and r says which
@@ -22,62 +28,62 @@ module _ (name bs : List ℕ) where
   abbrev number : ℕ
   number = leading_number (drop (length name) bs)
 
-  is_line : begins (numbered name number) bs ≡ true → number_line name bs ≡ record { value = number; length = length (numbered name number) }
+  abbrev line_of : ℕ → Numeral
+  line_of v = record { value = v; length = length (numbered name v) }
+
+  found : (b : Bool) → begins (numbered name number) bs ≡ b → number_line name bs ≡ cond b (Some (line_of number)) None
   unfolding number_line
-  is_line h = rw h
+  found b h = rw h
 
-  no_line : begins (numbered name number) bs ≡ false → number_line name bs ≡ record { value = 0; length = 0 }
-  unfolding number_line
-  no_line h = rw h
-
-  -- as it is looked for: the name, and then the number
-  module _ (v : ℕ) (is : v ≡ leading_number (drop (length name) bs)) where
-    parts : begins (numbered name number) bs ≡ begins name bs && begins (numbered [] v) (drop (length name) bs)
-    parts = rw (← is) (begins_append name (numbered [] v) bs)
-
-    pub no_name : begins name bs ≡ false → record { value = 0; length = 0 } ≡ number_line name bs
-    no_name a = sym (no_line (parts ∙ rw a))
-
-    module _ (a : begins name bs ≡ true) where
-      pub no_number : begins (numbered [] v) (drop (length name) bs) ≡ false → record { value = 0; length = 0 } ≡ number_line name bs
-      no_number b = sym (no_line (parts ∙ rw (a, b)))
-
-      pub both : begins (numbered [] v) (drop (length name) bs) ≡ true → record { value = v; length = length name + length (numbered [] v) } ≡ number_line name bs
-      both b = sym (is_line (parts ∙ rw (a, b)) ∙ rw (← is) (ap (λ (n : ℕ). record { value = v; length = n }) (length-append name (numbered [] v))))
-
-  pub line_there : ((number_line name bs).length ≡ 0 → ⊥) → Numbered name bs (number_line name bs)
-  line_there some = go (begins (numbered name number) bs) refl
+  pub line_there : (r : Numeral) → number_line name bs ≡ Some r → Numbered name bs r
+  line_there r some = go (begins (numbered name number) bs) refl
     where
-      go : (b : Bool) → begins (numbered name (leading_number (drop (length name) bs))) bs ≡ b → Numbered name bs (number_line name bs)
-      go true h = rw (is_line h) (record { small = mod-lt _ (omega arith); stands = record { there = h; size = refl } })
-      go false h = absurd (some (ap (λ (r : Numeral). r.length) (no_line h)))
+      go : (b : Bool) → begins (numbered name (leading_number (drop (length name) bs))) bs ≡ b → Numbered name bs r
+      go true h =
+          let e : line_of number ≡ r = let q : Some (line_of number) ≡ Some r = sym (found true h) ∙ some in cc in
+          rw (← e) (record { small = mod-lt _ (omega arith); stands = record { there = h; size = refl } })
+      go false h = absurd (let q : ◌≡◌ {A = Option Numeral} None (Some r) = sym (found false h) ∙ some in cc)
 
-  pub line_found : (v : ℕ) → v < 2 ^ 32 → begins (numbered name v) bs ≡ true → number_line name bs ≡ record { value = v; length = length (numbered name v) }
+  pub line_found : (v : ℕ) → v < 2 ^ 32 → begins (numbered name v) bs ≡ true → number_line name bs ≡ Some (record { value = v; length = length (numbered name v) })
   line_found v small h =
       let rest : List ℕ = drop (length (numbered name v)) bs in
       let e : bs ≡ name ++ (decimal v ++ (10 ∷ rest)) = begins_whole (numbered name v) bs h ∙ numbered_rest name v rest in
       let n : number ≡ v = ap leading_number (ap (drop (length name)) e ∙ drop_at name (decimal v ++ (10 ∷ rest)) (length name) refl) ∙ number_back v rest small in
-      is_line (rw n h) ∙ ap (λ (m : ℕ). record { value = m; length = length (numbered name m) }) n
+      found true (rw n h) ∙ ap (λ (m : ℕ). Some (line_of m)) n
 
-  -- where there is none, the number is 0
-  pub no_value : (number_line name bs).length ≡ 0 → (number_line name bs).value ≡ 0
-  no_value none = go (begins (numbered name number) bs) refl
-    where
-      go : (b : Bool) → begins (numbered name (leading_number (drop (length name) bs))) bs ≡ b → (number_line name bs).value ≡ 0
-      go true h = absurd (omega (arith, none, ap (λ (r : Numeral). r.length) (is_line h), line_length name (decimal number)))
-      go false h = ap (λ (r : Numeral). r.value) (no_line h)
+  -- as it is looked for: the name, the digits behind it, and byte 10 behind them
+  abbrev behind : List ℕ
+  behind = drop (length name) bs
 
-  pub value_small : (number_line name bs).value < 2 ^ 32
-  value_small = go (begins (numbered name number) bs) refl
-    where
-      go : (b : Bool) → begins (numbered name (leading_number (drop (length name) bs))) bs ≡ b → (number_line name bs).value < 2 ^ 32
-      go true h = rw (is_line h) (mod-lt _ (omega arith))
-      go false h = rw (no_line h) (omega arith)
+  abbrev printed_number : List ℕ
+  printed_number = std.decimal number
 
-  -- and all of it lies within the bytes
-  pub line_within : (number_line name bs).length ≤ length bs
-  line_within = go (begins (numbered name number) bs) refl
-    where
-      go : (b : Bool) → begins (numbered name (leading_number (drop (length name) bs))) bs ≡ b → (number_line name bs).length ≤ length bs
-      go true h = rw (is_line h) (begins_within (numbered name number) bs h)
-      go false h = rw (no_line h) (omega arith)
+  abbrev end : List ℕ
+  end = drop (length printed_number) behind
+
+  parts : begins (numbered name number) bs ≡ begins name bs && (begins printed_number behind && begins (10 ∷ []) end)
+  parts = begins_append name (numbered [] number) bs ∙ rw (← printed number (mod-lt _ (omega arith))) (ap (λ (b : Bool). begins name bs && b) (begins_append printed_number (10 ∷ []) behind))
+
+  pub not_named : begins name bs ≡ false → number_line name bs ≡ None
+  not_named a = found false (parts ∙ rw a)
+
+  pub no_name : pointwise eqb (take (length name) bs) name ≡ false → None ≡ number_line name bs
+  no_name a = sym (not_named (sym (strips_begins name bs) ∙ a))
+
+  pub no_digits : pointwise eqb (take (length printed_number) behind) printed_number ≡ false → None ≡ number_line name bs
+  no_digits b = sym (found false (parts ∙ rw (sym (strips_begins printed_number behind) ∙ b) (and-false _)))
+
+  pub no_end : pointwise eqb (take 1 end) (10 ∷ []) ≡ false → None ≡ number_line name bs
+  no_end c = sym (found false (parts ∙ rw (sym (strips_begins (10 ∷ []) end) ∙ c) (ap (λ (b : Bool). begins name bs && b) (and-false _) ∙ and-false _)))
+
+  pub all_there : pointwise eqb (take (length name) bs) name ≡ true → pointwise eqb (take (length printed_number) behind) printed_number ≡ true → pointwise eqb (take 1 end) (10 ∷ []) ≡ true
+      → Some (record { value = number; length = length bs - length (drop 1 end) }) ≡ number_line name bs
+  all_there a b c =
+      let there : begins (numbered name number) bs ≡ true = parts ∙ rw (sym (strips_begins name bs) ∙ a, sym (strips_begins printed_number behind) ∙ b, sym (strips_begins (10 ∷ []) end) ∙ c) in
+      let within : length (numbered name number) ≤ length bs = begins_within (numbered name number) bs there in
+      let len : length bs - length (drop 1 end) ≡ length (numbered name number) =
+      rw (length-drop 1 end, length-drop (length printed_number) behind, length-drop (length name) bs)
+      (omega (arith, within, line_length name (decimal number), ap length (printed number (mod-lt _ (omega arith))))) in
+      rw len (sym (found true there))
+
+pub ruleset finding = (no_name, no_digits, no_end, all_there)

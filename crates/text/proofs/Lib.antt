@@ -1,8 +1,8 @@
 pub mod Decimals
-pub mod Spelling
+pub mod Printed
 pub mod Numbers
 pub mod Lines
 pub mod Beginnings
 pub mod Found
-pub mod Determined
 pub mod Claims
+pub mod Determined

@@ -1,5 +1,5 @@
 -- Texts as bytes: words, numbers in decimal, and lines. "Numbers are decimal, at most 4,294,967,295, without leading zeros."
-use Rattle.std.specs.Prelude.{Bool, true, false, cond, ◌&&◌, List, [], ◌∷◌, ◌++◌, ℕ, zero, suc, ◌+◌, ◌*◌, ◌-◌, ◌/◌, ◌%◌, ◌^◌, leb, ltb, eqb, length, drop}
+use Rattle.std.specs.Prelude.{Bool, true, false, cond, ◌&&◌, Option, Some, None, List, [], ◌∷◌, ◌++◌, ℕ, zero, suc, ◌+◌, ◌*◌, ◌-◌, ◌/◌, ◌%◌, ◌^◌, leb, ltb, eqb, length, drop}
 use Prim.Native.Char.{code}
 use Prim.Native.String as S
 use Rattle.text.specs.declared.Numeral.{Numeral}
@@ -49,6 +49,10 @@ same t bs = begins t bs && eqb (length t) (length bs)
 abbrev pub fitted : List ℕ → List ℕ → List ℕ
 fitted t before = cond (leb (length t) (length before)) t []
 
+-- its length, where there is room for it
+abbrev pub fitted_length : List ℕ → List ℕ → Option ℕ
+fitted_length t before = cond (leb (length t) (length before)) (Some (length t)) None
+
 -- the digits that bs begins with, at most `most` of them
 unfoldable pub leading : ℕ → List ℕ → List ℕ
 leading zero bs = []
@@ -65,8 +69,8 @@ value_from n (d ∷ ds) = value_from (n * 10 + (d - 48)) ds
 abbrev pub leading_number : List ℕ → ℕ
 leading_number bs = value_from 0 (leading 10 bs) % 2 ^ 32
 
--- the line of a name and a number that bs begins with: the number, and the line's length; 0 and 0 where there is none
-unfoldable pub number_line : List ℕ → List ℕ → Numeral
+-- the line of a name and a number that bs begins with, if there is one: the number, and the line's length
+unfoldable pub number_line : List ℕ → List ℕ → Option Numeral
 number_line name bs =
     let n = leading_number (drop (length name) bs) in
-    cond (begins (numbered name n) bs) (record { value = n; length = length (numbered name n) }) (record { value = 0; length = 0 })
+    cond (begins (numbered name n) bs) (Some (record { value = n; length = length (numbered name n) })) None

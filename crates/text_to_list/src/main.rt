@@ -10,7 +10,8 @@ use programs::text_to_list;
 use std::io::Read;
 use streams::{read_input, warn_of_arguments, write_output};
 
-// Reads an input, and puts at the front of `output` all that goes out for it. Answers how many bytes that is.
+// Reads an input, and puts at the front of `output` all that goes out for it. Answers how many bytes that is. (list_to_text has the twin, and
+// says why both stand.)
 fn converted<R: Read>(reader: &mut R, input: &mut [u8], output: &mut [u8]) -> usize
     requires longer_is_seen { limit < length input.old }
     requires room { 16593 ≤ length output.old }
@@ -18,8 +19,7 @@ fn converted<R: Read>(reader: &mut R, input: &mut [u8], output: &mut [u8]) -> us
     ensures all_of_it { (bytes : List ℕ) × IsSeen limit (R.remaining reader.old) bytes × (take result output.new ≡ text_to_list bytes) }
 {
     let size = read_input(reader, input);
-    let answer = text_to_list(&input[..size], output);
-    answer.length
+    text_to_list(&input[..size], output).unwrap()
 }
 
 fn main(rt: HostRuntime) {

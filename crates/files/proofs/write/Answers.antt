@@ -1,70 +1,43 @@
 -- What the values are refused for; the room; the header's text and the body.
-use Rattle.std.proofs.Common.{sym, ◌∙◌, arith}
+use Rattle.std.proofs.Common.{◌∙◌, arith}
+use Rattle.std.proofs.lemmas.Result.{err_from_is_err_and}
 use Rattle.layout.proofs.LaneCounts.{lanes_of}
-use Rattle.files.proofs.Filing.{not_measured, able, length_small, text_small, no_room, file_done}
+use Rattle.files.proofs.Filing.{not_measured, able, size_small, no_room, body_written, file_done}
 use Rattle.files.proofs.write.Goals as goal
 
-pub returns-then-not-is_accepted : goal.returns-then-not-is_accepted
-returns-then-not-is_accepted c =
-    let a = c.args in
-    let p = not_measured a.lanes a.mode a.values.now a.file.now
-    c.measure-measured.ensures (sym c.is_accepted.ensures ∙ c.if-not-is_accepted.true) c.refused.ensures in
-    record { value = p.0; file_after = p.1 }
+pub returns-in_err-bytes : goal.returns-in_err-bytes
+returns-in_err-bytes c =
+    let p = err_from_is_err_and c.from_residual.result c.from_residual.ensures.1 in
+    let n = not_measured c.args.lanes c.args.mode c.args.values.now c.args.file.now _ c.in_err-bytes.ensures in
+    record { value = rw (p.1, p.2) n.0; file_after = n.1 }
 
-pub overflow_cast-header : goal.overflow_cast-header
-overflow_cast-header c =
-    let a = c.args in
-    omega (
-      arith,
-      lanes_of _ (able a.lanes a.mode a.values.now a.file.now _
-          c.measure-measured.ensures (sym c.is_accepted.ensures ∙ c.if-not-is_accepted.false)).lanes,
-    )
+pub overflow_cast-lanes : goal.overflow_cast-lanes
+overflow_cast-lanes c = omega (arith, lanes_of _ (able c.args.lanes c.args.mode c.args.values.now c.args.file.now _ c.in_ok-bytes.ensures).lanes)
 
-pub overflow_cast-header-2 : goal.overflow_cast-header-2
-overflow_cast-header-2 c =
-    let a = c.args in
-    omega (
-      arith,
-      (able a.lanes a.mode a.values.now a.file.now _
-          c.measure-measured.ensures (sym c.is_accepted.ensures ∙ c.if-not-is_accepted.false)).few,
-    )
+pub overflow_cast-values : goal.overflow_cast-values
+overflow_cast-values c = omega (arith, (able c.args.lanes c.args.mode c.args.values.now c.args.file.now _ c.in_ok-bytes.ensures).few)
 
-pub overflow_cast-header-3 : goal.overflow_cast-header-3
-overflow_cast-header-3 c =
-    let a = c.args in
-    omega (
-      arith,
-      length_small a.lanes a.mode a.values.now a.file.now _
-          c.measure-measured.ensures (sym c.is_accepted.ensures ∙ c.if-not-is_accepted.false),
-    )
+pub overflow_cast-bytes : goal.overflow_cast-bytes
+overflow_cast-bytes c = omega (arith, size_small c.args.lanes c.args.mode c.args.values.now c.args.file.now _ c.in_ok-bytes.ensures)
 
 pub overflow_add-length : goal.overflow_add-length
-overflow_add-length c =
-    let a = c.args in
-    let k = c.measure-measured in
-    let ok = sym c.is_accepted.ensures ∙ c.if-not-is_accepted.false in
-    omega (
-      arith,
-      length_small a.lanes a.mode a.values.now a.file.now k.result k.ensures ok,
-      text_small a.lanes a.mode a.values.now a.file.now k.result k.ensures ok _ c.put_header-length.ensures.value,
-    )
+overflow_add-length c = omega (arith, size_small c.args.lanes c.args.mode c.args.values.now c.args.file.now _ c.in_ok-bytes.ensures)
 
 pub returns-then-file-length : goal.returns-then-file-length
 returns-then-file-length c =
-    let a = c.args in
-    let k = c.measure-measured in
-    let ok = sym c.is_accepted.ensures ∙ c.if-not-is_accepted.false in
-    let p = no_room a.lanes a.mode a.values.now a.file.now k.result k.ensures ok _
-    c.put_header-length.ensures.value c.if-file-length.true c.refused-then-file-length.ensures in
+    let p = no_room c.args.lanes c.args.mode c.args.values.now c.args.file.now _ c.in_ok-bytes.ensures
+    _ _ c.header_text-text.ensures c.len-length.ensures.value c.if-file-length.true in
     record { value = p.0; file_after = p.1 }
+
+pub unwrap-requires : goal.unwrap-requires
+unwrap-requires c =
+    body_written c.args.lanes c.args.mode c.args.values.now c.args.file.now _ c.in_ok-bytes.ensures
+    _ _ c.header_text-text.ensures c.len-length.ensures.value c.if-file-length.false
+    _ (c.copy_from_slice.ensures.after ∙ c.as_bytes.ensures.value ∙ c.deref.ensures.0) _ c.write.ensures.value
 
 pub returns : goal.returns
 returns c =
-    let a = c.args in
-    let k = c.measure-measured in
-    let ok = sym c.is_accepted.ensures ∙ c.if-not-is_accepted.false in
-    let h = c.put_header-length in
-    let p = file_done a.lanes a.mode a.values.now a.file.now k.result k.ensures ok h.result h.ensures.value c.if-file-length.false
-    h.new.out c.put.new.out h.ensures.out_after c.put.ensures.out_after
-    c.write.new.body c.write.ensures.body_after c.accepted.ensures in
+    let p = file_done c.args.lanes c.args.mode c.args.values.now c.args.file.now _ c.in_ok-bytes.ensures
+    _ _ c.header_text-text.ensures c.len-length.ensures.value c.if-file-length.false
+    _ (c.copy_from_slice.ensures.after ∙ c.as_bytes.ensures.value ∙ c.deref.ensures.0) _ c.write.ensures.body_after in
     record { value = p.0; file_after = p.1 }

@@ -1,11 +1,7 @@
--- Past the first i values all were in order.
-use Rattle.std.proofs.Common.{◌-◌, length}
+-- Past the first values all were in order.
 use Rattle.std.proofs.Math.ListN.{take}
 use Rattle.order.proofs.Going.{Going}
 use Rattle.order.proofs.in_order.Given as goal
 
-abbrev pub invariant-loop-i : goal.invariant-loop-i
-invariant-loop-i l = Going l.initial.running (take l.i l.values) l.running
-
-abbrev pub decreases-loop-i : goal.decreases-loop-i
-decreases-loop-i l = length l.values - l.i
+abbrev pub invariant-loop-v : goal.invariant-loop-v
+invariant-loop-v l = Going l.initial.running (take l.v-index l.values) l.running

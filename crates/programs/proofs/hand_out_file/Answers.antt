@@ -1,28 +1,16 @@
--- The file, or nothing where there is no room for it; what the values are refused for is the line.
-use Rattle.std.proofs.Common.{sym, ◌∙◌}
-use Rattle.programs.proofs.Outcomes.{out_is, file_out, file_without_room, list_refused}
+-- Where the values are refused nothing was written, and their line goes out.
+use Rattle.std.proofs.Common.{sym, ◌∙◌, length}
+use denote.Enum.Bare.{same_false}
+use Rattle.answers.specs.contracts.Refusal.{the_type}
+use Rattle.lists.proofs.Accepts.{writing_parts}
+use Rattle.files.specs.Calls.{file_for}
+use Rattle.programs.proofs.Outcomes.{values_refused}
 use Rattle.programs.proofs.hand_out_file.Goals as goal
 
-pub returns-then-number-eq0 : goal.returns-then-number-eq0
-returns-then-number-eq0 c =
+pub returns-in-Err-2-clause-out_after : goal.returns-in-Err-2-clause-out_after
+returns-in-Err-2-clause-out_after c =
     let a = c.args in
-    let w = c.write-written.ensures in
-    let o = file_out a.lanes a.mode a.values.now a.out.now (w.value, w.file_after) (sym c.number-number.ensures ∙ c.if-number-eq0.true) in
-    record { value = o.0; out_after = o.1 }
-
-pub returns-then-number-eq4 : goal.returns-then-number-eq4
-returns-then-number-eq4 c =
-    let a = c.args in
-    let w = c.write-written.ensures in
-    let o = file_without_room a.lanes a.mode a.values.now a.out.now (w.value, w.file_after) (sym c.number-number.ensures ∙ c.if-number-eq4.true) in
-    record { value = o.0; out_after = o.1 }
-
-pub returns : goal.returns
-returns c =
-    let a = c.args in
-    let w = c.write-written.ensures in
-    let k = list_refused a.lanes a.mode a.values.now a.out.now (w.value, w.file_after)
-    (λ z. c.if-number-eq0.false (c.number-number.ensures ∙ z)) (λ z. c.if-number-eq4.false (c.number-number.ensures ∙ z)) in
-    let r = c.refuse.ensures in
-    let o = out_is k.0 a.out.now (rw k.1 at r.value, rw k.1 at r.out_after) in
-    record { value = o.0; out_after = o.1 }
+    let w = c.write.ensures in
+    let e = values_refused a.said.lanes a.said.mode a.values.now (length a.out.now) (sym c.in-Err.is ∙ w.value) (same_false the_type _ _ (sym c.eq.ensures ∙ c.if-eq.false)) in
+    c.refuse.ensures.out_after
+    ∙ rw (w.file_after, writing_parts a.said.lanes a.said.mode a.values.now (length (file_for a.said.lanes a.said.mode a.values.now)) (length a.out.now), e)

@@ -1,5 +1,5 @@
 -- The first i bytes are there.
-use Rattle.std.proofs.Common.{◌-◌, ◌≤◌}
+use Rattle.std.proofs.Common.{◌≤◌}
 use Rattle.layout.specs.Layout.{table}
 use Rattle.answers.proofs.Fronts.{Front}
 use Rattle.tables.specs.Tables.{hex_byte}
@@ -7,6 +7,3 @@ use Rattle.tables.proofs.decode.Given as goal
 
 abbrev pub invariant-loop-i : goal.invariant-loop-i
 invariant-loop-i l = (l.i ≤ l.count) × Front (table (hex_byte l.hex) l.i) l.fn.bytes l.bytes
-
-abbrev pub decreases-loop-i : goal.decreases-loop-i
-decreases-loop-i l = l.count - l.i

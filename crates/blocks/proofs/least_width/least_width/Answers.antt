@@ -10,6 +10,6 @@ use Rattle.blocks.proofs.least_width.least_width.Goals as goal
 pub returns : goal.returns
 returns c =
     let a = c.args in
-    c.most_significant_bit.ensures ∙ ap significant c.or_collapse_to_u32.ensures
+    c.most_significant_bit.ensures ∙ ap significant (rw c.count.ensures.value at c.or_collapse_to_u32.ensures)
     ∙ sym (least_by_lanes a.lanes 32 (entries a.mode (at a.values.now)) (at c.accumulate.result) c.accumulate.ensures
     (λ k h. entries_small a.mode (at a.values.now) k (c.type_inv.values k).fits))

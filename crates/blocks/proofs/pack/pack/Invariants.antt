@@ -1,5 +1,5 @@
 -- The loop's invariant: `Packing` at row `row`, with `previous` the row of values before it.
-use Rattle.std.proofs.Common.{◌≡◌, ◌*◌, ◌-◌, ◌≤◌}
+use Rattle.std.proofs.Common.{◌≡◌, ◌*◌}
 use Rattle.layout.specs.Layout.{at}
 use Rattle.lanes.specs.Rows.{last_lane}
 use Rattle.lanes.specs.Sums.{before}
@@ -9,9 +9,5 @@ use Rattle.blocks.proofs.pack.pack.Given as goal
 
 abbrev pub invariant-loop-row : goal.invariant-loop-row
 invariant-loop-row l =
-    (l.row ≤ 32)
-    × (last_lane l.lanes l.previous ≡ before (first_of l.mode) (at l.values) (l.row * l.lanes))
+    (last_lane l.lanes l.previous ≡ before (first_of l.mode) (at l.values) (l.row * l.lanes))
     × Packing l.lanes l.width (entries l.mode (at l.values)) l.fn.out l.row l.held l.out
-
-abbrev pub decreases-loop-row : goal.decreases-loop-row
-decreases-loop-row l = 32 - l.row

@@ -3,4 +3,4 @@ use Rattle.blocks.specs.kernel.Places.{WordsStored}
 use Rattle.blocks.proofs.words.store_words.Given as goal
 
 abbrev pub invariant-loop-l : goal.invariant-loop-l
-invariant-loop-l l = WordsStored 0 l.l l.row l.fn.out l.out
+invariant-loop-l l = WordsStored l.first l.l l.fn.row l.fn.out l.out

@@ -1,19 +1,17 @@
 -- Past the eighth lane there is nothing to or.
-use Rattle.std.proofs.Common.{◌≡◌, min, refl, ap, ◌∙◌, add-one, arith}
+use Rattle.std.proofs.Common.{◌≡◌, [], length, ◌∙◌, arith, rules}
+use Rattle.std.proofs.lemmas.Fn.{fold_over, fronts}
+use Rattle.std.specs.Iterator.Adapters.{take_steps}
+use Rattle.std.proofs.lemmas.Iterator.{YieldsList-from_take, YieldsList-from_slice}
 use Rattle.layout.specs.Layout.{at}
 use Rattle.layout.specs.Width.{or_all}
-use Rattle.layout.proofs.Joined.{or_used}
+use Rattle.lanes.proofs.Joined.{or_snoc, or_front}
+use Rattle.layout.proofs.Joined.{or_none}
 use Rattle.lanes.proofs.scalar.or_collapse_to_u32.Goals as goal
-
-pub loop-l-init : goal.loop-l-init
-unfolding or_all
-loop-l-init c = refl
-
-pub loop-l-preserved : goal.loop-l-preserved
-unfolding or_all
-loop-l-preserved c = rw (add-one c.loop-l.l, or_all, c.loop-l.invariant)
 
 pub returns : goal.returns
 returns c =
-    let e : c.loop-l.l ≡ min c.args.lanes 8 = omega arith in
-    c.loop-l.invariant ∙ ap (or_all (at c.args.accumulator)) e ∙ or_used c.args.accumulator c.args.lanes (omega arith)
+    let used = YieldsList-from_take {s = c.take.result} c.args.lanes (YieldsList-from_slice c.args.accumulator (search rules)) c.take.ensures.count in
+    fold_over (take_steps fronts) (λ y. y.now) _ (λ ys a. a ≡ or_all (at ys) (length ys)) _ (λ ys a x b f' j k. search (rules, or_snoc))
+    c.take.result _ _ _ used.runs (or_none (at [])) c.fold.ensures.ran
+    ∙ or_front c.args.accumulator c.args.lanes (omega arith)

@@ -1,36 +1,27 @@
 -- The whole block is unpacked in place, and its last value is the next block's previous.
-use Rattle.std.proofs.Common.{◌∙◌, arith}
-use Rattle.layout.proofs.LaneCounts.{lanes_of}
+use Rattle.std.proofs.Common.{◌≡◌, sym, ◌∙◌}
+use Rattle.answers.specs.Answers.{over}
+use Rattle.layout.specs.Layout.{block_size}
+use Rattle.answers.proofs.Answers.{passes}
+use Rattle.answers.proofs.Parts.{part_is}
+use Rattle.bodies.specs.Reading.{width_at, values_at, frame_refusal}
 use Rattle.bodies.proofs.Tests.{framed}
-use Rattle.lists.proofs.BlockCalls.{unpack_is}
+use Rattle.lists.proofs.BlockCalls.{block_over}
 use Rattle.lists.proofs.Fetches.{last_value}
 use Rattle.lists.proofs.fetch.fetch_block.Goals as goal
 
-pub slice_bounds-decompress-count : goal.slice_bounds-decompress-count
-slice_bounds-decompress-count c = omega (arith, (framed _ _ c.requires.1).some)
-
-pub slice_bounds-decompress-start : goal.slice_bounds-decompress-start
-slice_bounds-decompress-start c = omega (arith, (framed _ _ c.requires.1).some)
-
-pub bounds-bytes-0 : goal.bounds-bytes-0
-bounds-bytes-0 c = omega (arith, (framed _ _ c.requires.1).some)
-
-pub overflow_sub-lanes : goal.overflow_sub-lanes
-overflow_sub-lanes c = omega (arith, lanes_of _ c.requires.0)
-
-pub bounds-values-lanes : goal.bounds-values-lanes
-bounds-values-lanes c = omega (arith, lanes_of _ c.requires.0, c.requires.2)
+left : (c : goal.After-after) → c.decompress.new.decompressed ≡ over (values_at c.args.lanes c.args.mode (block_size c.args.lanes) c.args.bytes.now) c.args.values.now
+left c =
+    let a = c.args in
+    let f = passes (frame_refusal a.lanes a.bytes.now) (width_at a.bytes.now) (sym c.framed.ensures.value ∙ c.unwrap-width.ensures) in
+    (rw (c.count.ensures.value, c.bits.ensures.value, f.1, part_is 1 a.bytes.now) at c.decompress.ensures.decompressed_after)
+    ∙ block_over a.lanes (rw c.count.ensures.value at c.count.ensures.told) a.mode a.bytes.now a.values.now (framed a.lanes a.bytes.now c.requires.0) c.requires.1
 
 pub returns-clause-values_after : goal.returns-clause-values_after
-returns-clause-values_after c =
-    let p = c.requires in
-    c.decompress.ensures.decompressed_after
-    ∙ unpack_is c.args.lanes p.0 c.args.bytes.now (framed _ _ p.1) _ c.wide.ensures.value c.args.mode c.args.values.now p.2
+returns-clause-values_after c = left c
 
 pub returns-clause-value : goal.returns-clause-value
 returns-clause-value c =
-    let p = c.requires in
-    c.after.ensures
-    ∙ last_value c.args.lanes c.args.mode c.args.bytes.now (lanes_of _ p.0).0 c.decompress.new.decompressed c.args.values.now
-    (c.decompress.ensures.decompressed_after
-    ∙ unpack_is c.args.lanes p.0 c.args.bytes.now (framed _ _ p.1) _ c.wide.ensures.value c.args.mode c.args.values.now p.2)
+    let a = c.args in
+    c.after.ensures ∙ rw c.block_size.ensures.value
+    (last_value a.lanes a.mode a.bytes.now (rw c.count.ensures.value at c.count.ensures.bounds.0) c.decompress.new.decompressed a.values.now (left c))

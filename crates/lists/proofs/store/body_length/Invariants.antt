@@ -1,10 +1,13 @@
--- The loop's invariant: the blocks of the values before `place` are `total` bytes long.
-use Rattle.std.proofs.Common.{◌*◌, ◌-◌, ◌≤◌, length}
+-- The blocks of the values that are past are `total` bytes long.
+use Rattle.std.proofs.Common.{◌≡◌}
+use Rattle.std.specs.Slice.Iter.{chunks_rest, chunks_size}
+use Rattle.layout.specs.Layout.{block_size}
 use Rattle.lists.proofs.Stores.{Stored}
 use Rattle.lists.proofs.store.body_length.Given as goal
 
-abbrev pub invariant-loop-place : goal.invariant-loop-place
-invariant-loop-place l = Stored l.lanes l.fn.mode l.values l.running l.place l.total × (l.total ≤ l.place * 1025)
-
-abbrev pub decreases-loop-place : goal.decreases-loop-place
-decreases-loop-place l = length l.values - l.place
+abbrev pub invariant-loop-part : goal.invariant-loop-part
+invariant-loop-part l =
+    (goal.iterator-loop-part).can_next l.part-iterator
+    × (goal.iterator-loop-part).is_finite l.part-iterator
+    × (chunks_size l.part-iterator ≡ block_size l.lanes)
+    × Stored l.lanes l.fn.mode l.fn.values l.running (chunks_rest l.part-iterator) l.total

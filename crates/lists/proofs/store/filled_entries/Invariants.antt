@@ -1,10 +1,7 @@
--- The loop's invariant: the entries of the first i values are there.
-use Rattle.std.proofs.Common.{length, ◌-◌, replicate}
+-- The entries of the first values are there.
+use Rattle.std.proofs.Common.{replicate}
 use Rattle.lists.proofs.Stores.{Filling}
 use Rattle.lists.proofs.store.filled_entries.Given as goal
 
 abbrev pub invariant-loop-i : goal.invariant-loop-i
 invariant-loop-i l = Filling l.fn.mode l.values (replicate 256 0) l.running l.i l.block
-
-abbrev pub decreases-loop-i : goal.decreases-loop-i
-decreases-loop-i l = length l.values - l.i

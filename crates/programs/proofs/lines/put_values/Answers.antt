@@ -1,11 +1,15 @@
--- A line more at each turn.
-use Rattle.programs.proofs.ValueLines.{writing_none, writing_more}
+-- A line more at each turn, and room for it.
+use Rattle.std.proofs.Common.{sym, ◌∙◌}
+use Rattle.programs.proofs.ValueLines.{writing_none, writing_fitted, writing_more}
 use Rattle.programs.proofs.lines.put_values.Goals as goal
 
-pub loop-i-init : goal.loop-i-init
-loop-i-init c = writing_none c.args.values.now c.args.out.now
+pub loop-v-init : goal.loop-v-init
+loop-v-init c = writing_none c.args.values.now c.args.out.now
 
-pub loop-i-preserved : goal.loop-i-preserved
-loop-i-preserved c =
-    let p = c.put_number_line-length.ensures in
-    writing_more c.loop-i.invariant c.requires c.loop-i-test.true _ c.put_number_line-length.new.out (p.value, p.out_after)
+pub unwrap-length-requires : goal.unwrap-length-requires
+unwrap-length-requires c = rw c.put_number_line.ensures.value (writing_fitted c.loop-v.invariant c.requires c.loop-v-test.true)
+
+pub loop-v-preserved : goal.loop-v-preserved
+loop-v-preserved c =
+    let p = c.put_number_line.ensures in
+    writing_more c.loop-v.invariant c.requires c.loop-v-test.true _ c.put_number_line.new.out (sym p.value ∙ c.unwrap-length.ensures) p.out_after

@@ -1,10 +1,6 @@
--- The lines of the first i values are there.
-use Rattle.std.proofs.Common.{◌-◌, length}
+-- The lines of the values so far are there.
 use Rattle.programs.proofs.ValueLines.{Writing}
 use Rattle.programs.proofs.lines.put_values.Given as goal
 
-abbrev pub invariant-loop-i : goal.invariant-loop-i
-invariant-loop-i l = Writing l.values l.initial.out l.i l.length l.out
-
-abbrev pub decreases-loop-i : goal.decreases-loop-i
-decreases-loop-i l = length l.values - l.i
+abbrev pub invariant-loop-v : goal.invariant-loop-v
+invariant-loop-v l = Writing l.values l.initial.out l.v-index l.length l.out

@@ -1,31 +1,27 @@
 -- A line more at each turn, up to the first that is no value's or to the end.
-use Rattle.std.proofs.Common.{[], sym, ◌∙◌, ap, arith}
-use Rattle.answers.proofs.Parts.{part_is}
-use Rattle.text.specs.declared.Numeral.{Numeral}
-use Rattle.text.specs.Text.{number_line}
-use Rattle.programs.proofs.ValueLines.{reading_none, reading_within, reading_stop, reading_end, reading_more}
+use Rattle.std.proofs.Common.{sym, ◌∙◌, length, ◌-◌, ◌+◌}
+use borrow.Rule.Slice.PartMut.{mid_of}
+use Rattle.programs.proofs.ValueLines.{Reading, reading_none, reading_smaller, reading_stop, reading_kept, reading_full}
 use Rattle.programs.proofs.lines.read_values.Goals as goal
+use Rattle.programs.proofs.lines.read_values.Goals.{then-count-values, else-count-values}
 
-pub loop-place-init : goal.loop-place-init
-loop-place-init c = reading_none c.args.bytes.now c.args.values.now
+pub loop-line-init : goal.loop-line-init
+loop-line-init c = reading_none c.args.bytes.now c.args.values.now
 
-pub returns-then-length-eq0 : goal.returns-then-length-eq0
-returns-then-length-eq0 c =
-    let told = c.number_line-line.ensures ∙ ap (number_line []) (part_is c.loop-place.place c.args.bytes.now) in
-    let p = reading_stop c.loop-place.invariant c.loop-place-test.true (sym (ap (λ (l : Numeral). l.length) told) ∙ c.if-length-eq0.true) in
-    record { value = p.0; values_after = p.1 }
+pub loop-line-smaller : goal.loop-line-smaller
+loop-line-smaller c =
+    let told = sym c.in-Some.is ∙ c.number_line.ensures.value in
+    reading_smaller c.loop-line.invariant c.in-Some.line told
 
-pub overflow_add-place : goal.overflow_add-place
-overflow_add-place c =
-    let told = c.number_line-line.ensures ∙ ap (number_line []) (part_is c.loop-place.place c.args.bytes.now) in
-    omega (arith, reading_within (reading_more c.loop-place.invariant c.loop-place-test.true _ told c.if-length-eq0.false c.keep.ensures))
-
-pub loop-place-preserved : goal.loop-place-preserved
-loop-place-preserved c =
-    let told = c.number_line-line.ensures ∙ ap (number_line []) (part_is c.loop-place.place c.args.bytes.now) in
-    reading_more c.loop-place.invariant c.loop-place-test.true _ told c.if-length-eq0.false c.keep.ensures
+pub loop-line-preserved : goal.loop-line-preserved
+loop-line-preserved c =
+    let told = sym c.in-Some.is ∙ c.number_line.ensures.value in
+    elim c.if-count-values.branch as (λ b. Reading c.args.bytes.now c.args.values.now (mid_of c.in-Some.line.length (length c.loop-line.rest.now - c.in-Some.line.length) c.loop-line.rest.now) (c.loop-line.count + 1) c.if-count-values.values) [
+      | then-count-values w ↦ rw w.values-is (reading_kept c.loop-line.invariant c.in-Some.line told w.if-count-values.true)
+      | else-count-values w ↦ rw w.values-is (reading_full c.loop-line.invariant c.in-Some.line told w.if-count-values.false)
+    ]
 
 pub returns : goal.returns
 returns c =
-    let p = reading_end c.loop-place.invariant c.loop-place-test.false in
-    record { value = p.0; values_after = p.1 }
+    let p = reading_stop c.loop-line.invariant (sym c.in_default.is ∙ c.number_line.ensures.value) in
+    record { value = c.then_some.ensures ∙ rw c.is_empty.ensures p.0; values_after = p.1 }

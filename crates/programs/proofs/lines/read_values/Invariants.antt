@@ -1,10 +1,10 @@
--- The lines before `place` are values' lines.
-use Rattle.std.proofs.Common.{◌-◌, length}
+-- What stands before `rest` are values' lines.
+use Rattle.std.proofs.Common.{length}
 use Rattle.programs.proofs.ValueLines.{Reading}
 use Rattle.programs.proofs.lines.read_values.Given as goal
 
-abbrev pub invariant-loop-place : goal.invariant-loop-place
-invariant-loop-place l = Reading l.bytes l.initial.values l.place l.count l.values
+abbrev pub invariant-loop-line : goal.invariant-loop-line
+invariant-loop-line l = Reading l.bytes l.initial.values l.rest l.count l.values
 
-abbrev pub decreases-loop-place : goal.decreases-loop-place
-decreases-loop-place l = length l.bytes - l.place
+abbrev pub decreases-loop-line : goal.decreases-loop-line
+decreases-loop-line l = length l.rest

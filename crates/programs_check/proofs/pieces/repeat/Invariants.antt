@@ -2,5 +2,5 @@
 use Rattle.std.proofs.Common.{◌≡◌, ◌≤◌, length}
 use Rattle.programs_check.proofs.pieces.repeat.Given as goal
 
-abbrev pub invariant-loop-i : goal.invariant-loop-i
-invariant-loop-i l = (l.size ≤ length l.bytes) × (length l.bytes ≡ length l.fn.bytes)
+abbrev pub invariant-loop : goal.invariant-loop
+invariant-loop l = (l.size ≤ length l.bytes) × (length l.bytes ≡ length l.fn.bytes)

@@ -1,10 +1,10 @@
--- No such name begins before place i.
-use Rattle.std.proofs.Common.{◌≡◌, ◌-◌, ◌≤◌, length, drop}
+-- No name before the rest of the line begins with the letter.
+use Rattle.std.proofs.Common.{◌≡◌, length}
 use Rattle.tables.specs.Words.{word_of}
 use Rattle.tables.proofs.words.word.Given as goal
 
-abbrev pub invariant-loop-i : goal.invariant-loop-i
-invariant-loop-i l = (l.i ≤ length l.line) × (word_of l.letter l.line ≡ word_of l.letter (drop l.i l.line))
+abbrev pub invariant-loop-behind_it : goal.invariant-loop-behind_it
+invariant-loop-behind_it l = word_of l.letter l.line ≡ word_of l.letter l.rest
 
-abbrev pub decreases-loop-i : goal.decreases-loop-i
-decreases-loop-i l = length l.line - l.i
+abbrev pub decreases-loop-behind_it : goal.decreases-loop-behind_it
+decreases-loop-behind_it l = length l.rest

@@ -1,6 +1,0 @@
--- `kept` is at most `i`.
-use Rattle.std.proofs.Common.{◌≤◌}
-use Rattle.blocks_check.proofs.buffers.values_kept.Given as goal
-
-abbrev pub invariant-loop-i : goal.invariant-loop-i
-invariant-loop-i l = l.kept ≤ l.i

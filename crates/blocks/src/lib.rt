@@ -5,12 +5,12 @@ ghost use Rattle.std.specs.Prelude.{◌≡◌, length};
 ghost use Rattle.blocks.specs.Calls.{size_answer, pack_answer, pack_output, unpack_answer, unpack_output, width_answer};
 
 use answers::{Answer, Refusal};
+use block::Block;
 use lanes::{Lanes, Width};
-use least_width::{fits, least_width};
 use modes::Mode;
-use pack::pack;
 use unpack::unpack;
 
+mod block;
 mod least_width;
 mod pack;
 mod rows;
@@ -37,19 +37,17 @@ pub fn compress(
     ensures value { result ≡ pack_answer lanes mode decompressed.now (length compressed.old) width }
     ensures compressed_after { compressed.new ≡ pack_output lanes mode decompressed.now compressed.old width }
 {
-    let lanes = Lanes::new(lanes)?;
+    let few = Lanes::new(lanes)?;
     let width = Width::new(width)?;
-    if decompressed.len() != lanes.block_size() {
-        return Err(Refusal::BadBlock);
-    }
-    let size = lanes.payload_size(width);
+    let block = Block::new(few, mode, decompressed)?;
+    let size = few.payload_size(width);
     if compressed.len() < size {
         return Err(Refusal::NoRoom);
     }
-    if !fits(lanes, mode, decompressed, width) {
+    if !block.fits(width) {
         return Err(Refusal::TooWide);
     }
-    pack(lanes, mode, decompressed, compressed, width);
+    block.pack(compressed, width);
     Ok(size)
 }
 
@@ -82,8 +80,5 @@ pub fn num_bits(lanes: usize, mode: Mode, decompressed: &[u32]) -> Result<u32, R
     ensures { result ≡ width_answer lanes mode decompressed.now }
 {
     let lanes = Lanes::new(lanes)?;
-    if decompressed.len() != lanes.block_size() {
-        return Err(Refusal::BadBlock);
-    }
-    Ok(least_width(lanes, mode, decompressed))
+    Ok(Block::new(lanes, mode, decompressed)?.least_width())
 }

@@ -3,15 +3,15 @@ ghost use Rattle.std.specs.Prelude.{◌≡◌, true, List, ℕ, ◌+◌, ◌^◌
 ghost use Rattle.layout.specs.Layout.{at, block_size, payload_size, packed};
 ghost use Rattle.answers.specs.Answers.{over};
 ghost use Rattle.layout.specs.Width.{fits};
-ghost use Rattle.modes.specs.Entries.{entries};
+ghost use Rattle.blocks.specs.kernel.Blocks.{entries_in};
 ghost use Rattle.blocks.specs.kernel.Places.{RowOf};
 ghost use Rattle.blocks.specs.kernel.Registers.{Packing};
 
-use crate::rows::row_of;
+use crate::block::Block;
 use crate::words::store_words;
 use lanes::scalar::{left_shift_32, op_or, right_shift_32, set1};
 use lanes::{Lanes, Width};
-use modes::{Mode, initial_value, transform};
+use modes::{initial_value, transform};
 
 // Puts row `row` of entries on top of the bits that are held, stores the words that are full, and hands back the bits that are held then.
 // e stands for the entries of the block, whichever it is, and `before` for the output as the block found it.
@@ -40,21 +40,23 @@ fn pack_row(
     right_shift_32(entries, remaining)
 }
 
-// Each row of values becomes a row of entries, which goes on top of the rows before it.
-pub(crate) fn pack(lanes: Lanes, mode: Mode, values: &[u32], out: &mut [u8], width: Width)
-    requires room { (block_size lanes ≤ length values.now) × (payload_size lanes width ≤ length out.old) }
-    requires narrow { fits (entries mode (at values.now)) (block_size lanes) width ≡ true }
-    ensures { out.new ≡ over (packed lanes width (entries mode (at values.now))) out.old }
-{
-    let used = lanes.count();
-    let mut previous = set1(initial_value(mode));
-    let mut held = set1(0);
-    for row in 0..32 {
-        let place = row as usize * used;
-        let current = row_of(lanes, |l| values[place + l]);
-        let entries = transform(mode, current, previous, used);
-        let rest = pack_row(lanes, out, width, row, held, entries);
-        previous = current;
-        held = rest;
+impl<'a> Block<'a> {
+    // Each row of values becomes a row of entries, which goes on top of the rows before it.
+    pub(crate) fn pack(&self, out: &mut [u8], width: Width)
+        requires room { payload_size self.now.lanes width ≤ length out.old }
+        requires narrow { fits (entries_in self.now) (block_size self.now.lanes) width ≡ true }
+        ensures { out.new ≡ over (packed self.now.lanes width (entries_in self.now)) out.old }
+    {
+        let used = self.lanes.count();
+        let mut previous = set1(initial_value(self.mode));
+        let mut held = set1(0);
+        // (No plainer as a fold: it would carry the row before and the bits held, and store besides.)
+        for row in 0..32 {
+            let current = self.row(row as usize * used);
+            let entries = transform(self.mode, current, previous, used);
+            let rest = pack_row(self.lanes, out, width, row, held, entries);
+            previous = current;
+            held = rest;
+        }
     }
 }

@@ -11,6 +11,7 @@ pub(crate) fn row_of<F: Fn(usize) -> u32>(lanes: Lanes, number: F) -> [u32; 8]
     ensures { (l : ℕ) → l < lanes → F.post number l (at result l) }
 {
     let mut row = [0; 8];
+    // (Tried as `from_fn` around `number`: that asks that it may be called at every index, and the proof did not close.)
     for l in 0..lanes.count() {
         row[l] = number(l);
     }

@@ -12,7 +12,7 @@ use lanes::scalar::{left_shift_32, op_and, op_or, right_shift_32, set1};
 use lanes::{Lanes, Width};
 use modes::{Mode, initial_value, process};
 
-// So many bits, all 1.
+// So many bits, all 1. (In 64 bits: in 32, both the shift and the 1 taken off would wrap.)
 fn mask(width: Width) -> u32
     ensures { result ≡ 2 ^ width - 1 }
 {
@@ -56,6 +56,7 @@ pub(crate) fn unpack(lanes: Lanes, mode: Mode, bytes: &[u8], out: &mut [u32], wi
     let used = lanes.count();
     let mut current = set1(initial_value(mode));
     let mut held = set1(0);
+    // (No plainer as a fold: it would carry the row before and the bits held, and store besides.)
     for row in 0..32 {
         let (entries, rest) = unpack_row(lanes, bytes, width, row, held);
         let values = process(mode, current, entries, used);

@@ -40,7 +40,7 @@ pub fn op_and(left: [u32; 8], right: [u32; 8]) -> [u32; 8]
     from_fn(|l| left[l] & right[l])
 }
 
-// The numbers of the lanes in use, or-ed together.
+// The numbers of the lanes in use, or-ed together. (`usize` and not `Lanes`: it answers for any number, and the documents name it.)
 pub fn or_collapse_to_u32(accumulator: [u32; 8], lanes: usize) -> u32
     ensures { result ≡ or_all (at accumulator) lanes }
 {
@@ -66,6 +66,7 @@ pub fn sub(left: [u32; 8], right: [u32; 8]) -> [u32; 8]
 }
 
 // Each number less the one before it; before the first stands the last number in use of the row before.
+// (`usize`, as `or_collapse_to_u32`.)
 pub fn compute_delta(curr: [u32; 8], prev: [u32; 8], lanes: usize) -> [u32; 8]
     ensures { IsRow result (λ l. minus (at curr l) (before (last_lane lanes prev) (at curr) l)) }
 {
@@ -73,7 +74,7 @@ pub fn compute_delta(curr: [u32; 8], prev: [u32; 8], lanes: usize) -> [u32; 8]
     from_fn(|l| curr[l].wrapping_sub(if l == 0 { last } else { curr[l - 1] }))
 }
 
-// The running sums of a row of differences, on top of the last number in use of the row before.
+// The running sums of a row of differences, on top of the last number in use of the row before. (`usize`, as `or_collapse_to_u32`.)
 pub fn integrate_delta(offset: [u32; 8], delta: [u32; 8], lanes: usize) -> [u32; 8]
     ensures { IsRow result (running (last_lane lanes offset) (at delta)) }
 {

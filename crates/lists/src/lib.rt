@@ -25,6 +25,8 @@ mod framing;
 mod store;
 mod take;
 
+// Lanes and mode go side by side and not as one value: the lanes of a list stay, and past each block the mode is another.
+
 // The most values of a list.
 pub const MOST: usize = 4096;
 

@@ -9,7 +9,8 @@ ghost use Rattle.modes.specs.Entries.{first_of, entry_of, values_from};
 
 use lanes::scalar::{add, compute_delta, integrate_delta, set1, sub};
 
-// What strict starts from: none or a number (the Rust's `Option<u32>`).
+// What strict starts from: none or a number (the Rust's `Option<u32>`). An enum of our own, since document 01 binds it: "holds a second enum
+// standing for the Rust's optional initial".
 #[derive(Clone, Copy, Debug, PartialEq, Eq)]
 pub enum Initial {
     None,
@@ -36,6 +37,7 @@ pub fn initial_value(mode: Mode) -> u32
 }
 
 // The entries of the row of values `current`, where `previous` is the row of values before it.
+// (`usize` and not `Lanes`: it answers for any number, and the documents name it.)
 pub fn transform(mode: Mode, current: [u32; 8], previous: [u32; 8], lanes: usize) -> [u32; 8]
     ensures { IsRow result (λ l. entry_of mode (before (last_lane lanes previous) (at current) l) (at current l)) }
 {
@@ -46,7 +48,7 @@ pub fn transform(mode: Mode, current: [u32; 8], previous: [u32; 8], lanes: usize
     }
 }
 
-// The values of the row of entries `delta`, where `current` is the row of values before it.
+// The values of the row of entries `delta`, where `current` is the row of values before it. (`usize`, as `transform`.)
 pub fn process(mode: Mode, current: [u32; 8], delta: [u32; 8], lanes: usize) -> [u32; 8]
     ensures { IsRow result (values_from mode (last_lane lanes current) (at delta)) }
 {

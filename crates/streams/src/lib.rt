@@ -16,6 +16,7 @@ pub fn read_full<R: Read>(reader: &mut R, bytes: &mut [u8]) -> io::Result<usize>
     ensures front { IfOk result (λ n. Consumes (R.remaining reader.old) (R.remaining reader.new) (take n bytes.new)) }
     ensures end { IfOk result (λ n. n < length bytes.new → IsAtEnd (R.remaining reader.new)) }
 {
+    // (By hand: no method of `Read` without heap says how much of a short input there was.)
     let mut done = 0;
     while done < bytes.len() {
         match reader.read(&mut bytes[done..])? {

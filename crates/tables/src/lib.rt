@@ -64,7 +64,7 @@ pub fn checksum<T: Copy + Into<u32>>(items: &[T]) -> u32
     checksum_from(0, items)
 }
 
-// What a letter of a hex number stands for; any other is 0.
+// What a letter of a hex number stands for; any other is 0, which `to_digit` would not say of A to F.
 fn digit(letter: u8) -> u8
     ensures value { result ≡ digit_of letter }
     ensures upper_bound { result < 16 }
@@ -83,6 +83,7 @@ pub fn decode(hex: &[u8], bytes: &mut [u8]) -> usize
     ensures upper_bound { (result ≤ length bytes.new) × (result ≡ length (take result bytes.new)) }
 {
     let count = (hex.len() / 2).min(bytes.len());
+    // (By place: tried over `iter_mut`, behind which no element is known, and the proof did not close.)
     for i in 0..count {
         bytes[i] = digit(hex[2 * i]) * 16 + digit(hex[2 * i + 1]);
     }

@@ -7,7 +7,7 @@ ghost use Rattle.tables.specs.Words.{before_of, behind_of, is_name, word_of, val
 
 use modes::{Initial, Mode};
 
-// The letter at a place, and 0 where there is none.
+// The letter at a place, and 0 where there is none: each caller takes that as one more letter that tells nothing.
 pub fn letter_at(text: &[u8], place: usize) -> u8
     ensures { result ≡ at text.now place }
 {
@@ -92,7 +92,8 @@ pub fn decimal(text: &[u8]) -> u64
         .fold(0, |number, digit| with_digit(number, *digit))
 }
 
-// The number of a word, or the first of its two numbers. The largest number stands for a word that is not there.
+// The number of a word, or the first of its two numbers. The largest number stands for a word that is not there. (No `Option`: each caller
+// takes that as all that there is.)
 #[tactic(auto, unfolding(crate::specs::Words::amount_of))]
 pub fn amount(letter: u8, line: &[u8]) -> u64
     ensures { result ≡ amount_of letter line.now }

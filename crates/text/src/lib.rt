@@ -16,6 +16,7 @@ pub fn put(word: &[u8], out: &mut [u8]) -> Option<usize>
     if out.len() < length {
         return None;
     }
+    // (Tried as `out.get_mut(..length)?`, and the proof did not close.)
     out[..length].copy_from_slice(word);
     Some(length)
 }

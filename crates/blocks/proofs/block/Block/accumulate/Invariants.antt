@@ -5,9 +5,9 @@ use Rattle.layout.specs.Width.{or_all}
 use Rattle.lanes.specs.Rows.{last_lane}
 use Rattle.lanes.specs.Sums.{before}
 use Rattle.modes.specs.Entries.{first_of, entries}
-use Rattle.blocks.proofs.least_width.accumulate.Given as goal
+use Rattle.blocks.proofs.block.Block.accumulate.Given as goal
 
 abbrev pub invariant-loop-row : goal.invariant-loop-row
 invariant-loop-row l =
-    (last_lane l.lanes l.previous ≡ before (first_of l.mode) (at l.values) (l.row * l.lanes))
-    × ((k : ℕ) → k < l.lanes → at l.accumulator k ≡ or_all (λ i. entries l.mode (at l.values) (i * l.lanes + k)) l.row)
+    (last_lane l.self-inside.lanes l.previous ≡ before (first_of l.self-inside.mode) (at l.self-inside.values.now) (l.row * l.self-inside.lanes))
+    × ((k : ℕ) → k < l.self-inside.lanes → at l.accumulator k ≡ or_all (λ i. entries l.self-inside.mode (at l.self-inside.values.now) (i * l.self-inside.lanes + k)) l.row)

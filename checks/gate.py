@@ -12,6 +12,8 @@ import sys
 
 CRATE = re.compile(r"^rt: (\w+) (proved$|is kept: )", re.M)
 EDIT = re.compile(r"^rt: must-fail (\w+)/([\w.-]+)\.edit: refused, as it must be: (?:note: )?(?:\./)?(\S+:\d+:\d+): (.*)$", re.M)
+# `rt ci` cuts the line off, so the goal's own end may not be there
+GOAL = re.compile(r"(?:error: |it is not proved .*?\()`([^`]+)")
 RAN = re.compile(r"^rt: (\w+) ran\b", re.M)
 OK = re.compile(r"^rt: ok; .*?must-fail edits: (\d+) refused[^;\n]*; (.*)$", re.M)
 LAST = re.compile(r"^\d+ passed, \d+ failed$", re.M)
@@ -58,7 +60,7 @@ def main():
     refused, done = OK.search(log).groups()
     assert int(refused) == len(edits), "not every edit was refused at a place in a file in this run: rt ci --anew tries all"
     rows = [f"| {name} | {sum(edit[0] == name for edit in edits)} | {said} |" for name, said in crates]
-    within = [found[0] if (found := re.search(r"`[^`]*`", text)) else "" for _, _, _, text in edits]
+    within = [f"`{found[1]}`" if (found := GOAL.match(text)) else "" for _, _, _, text in edits]
     print(PAGE.format(
         last=LAST.findall(log)[-1], real=clock(REAL.search(log)), user=clock(USER.search(log)), system=clock(SYSTEM.search(log)),
         done=done[0].upper() + done[1:] + ".", rows="\n".join(rows), edits=len(edits),

@@ -7,7 +7,7 @@ use Rattle.std.specs.Prelude.{Ok, Err}
 use Rattle.answers.specs.declared.Refusal.TheVariants.{BadLanes, BadWidth, BadBlock, NoRoom, CutShort, TooWide, TooMany, OutOfOrder, NotLeast, BadFill, LeftOver, BadHeader}
 use Rattle.answers.specs.Refusals.{Tested, accept}
 use Rattle.answers.specs.Answers.{number_in}
-use Rattle.answers.specs.Claims.{NumbersApart}
+use Rattle.answers.specs.Claims.{NumbersApart, NumberAndLength}
 
 outcome_of : ℕ → Tested
 outcome_of n =
@@ -43,3 +43,7 @@ number_back (Err BadHeader) = refl
 
 pub numbers_apart : NumbersApart
 numbers_apart k l e = sym (number_back k) ∙ ap outcome_of e ∙ number_back l
+
+pub number_and_length : NumberAndLength
+number_and_length (Ok t) size = (refl, refl)
+number_and_length (Err k) size = (refl, refl)

@@ -1,4 +1,4 @@
-// Blocks: "B is the block size, 32L".
+// Blocks: "A block has B = 32L values".
 ghost use Rattle.std.specs.Prelude.{◌≡◌, ℕ, ◌+◌, ◌<◌, ◌≤◌, length};
 ghost use Rattle.answers.specs.Answers.{answer};
 ghost use Rattle.layout.specs.Layout.{at, block_size};

@@ -1,4 +1,4 @@
--- A contract that answers a row determines it: a row is eight numbers by its type. (As answers/specs/Contracts has it of other answers.)
+-- A contract that answers a row determines it: a row is eight numbers by its type. (As answers/specs/Promises has it of other answers.)
 use Rattle.std.specs.Prelude.{◌≡◌, ℕ, List, length}
 use contract.Lifetimes.{Lfts}
 use denote.Triple.Clauses.{AtExit}

@@ -7,5 +7,5 @@ use Rattle.layout.specs.Layout.{is_lanes}
 abbrev pub lanes_refusal : ℕ → Tested
 lanes_refusal L = refuse (not (is_lanes L)) BadLanes accept
 
-abbrev pub width_refusal : ℕ → Tested
-width_refusal n = refuse (ltb 32 n) BadWidth accept
+abbrev pub bits_refusal : ℕ → Tested
+bits_refusal n = refuse (ltb 32 n) BadWidth accept

@@ -5,7 +5,7 @@ ghost use Rattle.std.specs.Prelude.{◌≡◌, true, ℕ, ◌+◌, ◌*◌, ◌<
 ghost use Rattle.answers.specs.Answers.{answer};
 ghost use Rattle.layout.specs.Layout.{is_lanes, block_size, payload_size};
 ghost use Rattle.layout.specs.Width.{significant};
-ghost use Rattle.lanes.specs.Sizes.{lanes_refusal, width_refusal};
+ghost use Rattle.lanes.specs.Sizes.{lanes_refusal, bits_refusal};
 
 use answers::Refusal;
 use std::marker::Model;
@@ -29,7 +29,7 @@ impl Model for Lanes {
 }
 
 impl Lanes {
-    // So many lanes, or 1.
+    // So many lanes, or refusal 1.
     pub fn new(count: usize) -> Result<Lanes, Refusal>
         ensures { result ≡ answer (lanes_refusal count) count }
     {
@@ -82,9 +82,9 @@ impl Model for Width {
 }
 
 impl Width {
-    // So many bits, or 2.
+    // So many bits, or refusal 2.
     pub fn new(bits: u32) -> Result<Width, Refusal>
-        ensures { result ≡ answer (width_refusal bits) bits }
+        ensures { result ≡ answer (bits_refusal bits) bits }
     {
         if bits <= 32 {
             Ok(Width { bits })

@@ -20,7 +20,7 @@ use Rattle.layout.proofs.Tables.{length_table}
 use Rattle.layout.specs.Width.{fits, least_width}
 use Rattle.modes.specs.declared.Mode.{Mode}
 use Rattle.modes.specs.declared.Mode.TheVariants.{Plain}
-use Rattle.blocks.specs.Calls.{size_refusal, size_answer, pack_refusal, pack_answer, pack_output, unpacked, unpack_refusal, unpack_answer, unpack_output, width_refusal, width_answer}
+use Rattle.blocks.specs.Calls.{size_refusal, size_answer, pack_refusal, pack_answer, pack_output, unpacked, unpack_refusal, unpack_output, width_refusal, width_answer}
 use Rattle.blocks.proofs.Tests.{size_exactly, pack_exactly, unpack_exactly, width_exactly}
 use Rattle.order.proofs.Steps.{plain_values}
 use Rattle.order.proofs.Blockwise.{values_are}
@@ -54,9 +54,6 @@ module _ (L : ℕ) (lanes : is_lanes L ≡ true) where
   module _ (m : Mode) (payload before : List ℕ) (n : ℕ) (narrow : n ≤ 32) (whole : payload_size L n ≤ length payload) (room : block_size L ≤ length before) where
     unpackable : accepted (unpack_refusal L (length payload) (length before) n) ≡ true
     unpackable = (unpack_exactly L (length payload) (length before) n).1 (record { lanes = lanes; width = narrow; enough = room; whole = whole })
-
-    pub unpack_ok : unpack_answer L (length payload) (length before) n ≡ Ok (payload_size L n)
-    unpack_ok = answered (unpack_refusal L (length payload) (length before) n) (payload_size L n) unpackable
 
     pub unpack_over : unpack_output L m payload before n ≡ over (unpacked L m payload n) before
     unpack_over = overwritten (unpack_refusal L (length payload) (length before) n) (unpacked L m payload n) before unpackable

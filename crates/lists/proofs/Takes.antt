@@ -3,7 +3,7 @@ use mathlib.Core.Path.{◌≡◌, refl, sym, ◌∙◌, ap}
 use mathlib.Core.Bool.{Bool, true, false}
 use mathlib.Core.List.{List}
 use Prim.Native.Nat.{ℕ, suc, ◌+◌, ◌-◌, ◌≤◌, ◌<◌, min}
-use native.Mathlib.Nat.{lt_of_lt_of_le, zero-add, add-zero, sub-zero}
+use native.Mathlib.Nat.{lt_of_lt_of_le, add-zero}
 use native.Mathlib.Omega.{arith}
 use lib.ListN.{length, take, drop, length-drop}
 use lib.Pow.{pow_mono}
@@ -117,11 +117,6 @@ pub record Taking (L : ℕ) (m₀ : Mode) (count : ℕ) (body : List ℕ) (b : �
   pub within : s.place ≤ length body
   pub taken : s.blocks ≡ i
   pub same : stop_from L m₀ count body b ≡ past s (stop_from L s.mode s.left (drop s.place body) (b - i))
-
-pub taking_start : (L : ℕ) (m : Mode) (count : ℕ) (body : List ℕ) (b : ℕ) → Taking L m count body b (nothing accept count m) 0
-taking_start L m count body b =
-    let s : Stop = stop_from L m count body b in
-    record { within = omega arith; taken = refl; same = rw (sub-zero b, zero-add s.blocks, zero-add s.place) refl }
 
 module _ {L : ℕ} {m₀ : Mode} {count : ℕ} {body : List ℕ} {b : ℕ} {s : Stop} {i : ℕ} (t : Taking L m₀ count body b s i) where
   -- no block is left

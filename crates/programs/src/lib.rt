@@ -61,6 +61,7 @@ fn hand_out_file(said: Settings, values: &[u32], out: &mut [u8]) -> Answer
 {
     match files::write(said.lanes as usize, said.mode, values, out) {
         Ok(length) => Ok(length),
+        // (A guard: tried as the pattern `Err(Refusal::NoRoom)`, behind which the last arm is not known to be another, and the proof did not close.)
         Err(refusal) if refusal == Refusal::NoRoom => Err(refusal),
         Err(refusal) => refuse(refusal, out),
     }

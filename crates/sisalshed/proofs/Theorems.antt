@@ -2,7 +2,7 @@
 use mathlib.Core.Path.{◌≡◌, refl, sym, ◌∙◌, ap}
 use mathlib.Core.Bool.{Bool, true, false, not}
 use mathlib.Core.List.{List}
-use Rattle.std.specs.Prelude.{Ok}
+use Rattle.std.specs.Prelude.{Ok, Err}
 use Rattle.answers.proofs.Answers.{passes}
 use Rattle.files.specs.declared.Found.{Found}
 use Prim.Native.Nat.{ℕ, ◌+◌, ◌-◌}
@@ -55,15 +55,16 @@ some_body file {f} h =
 
 -- the numbers are those of the header's enum
 pub number_known : NumberKnown
-number_known BadLanes = omega arith
-number_known BadWidth = omega arith
-number_known BadBlock = omega arith
-number_known NoRoom = omega arith
-number_known CutShort = omega arith
-number_known TooWide = omega arith
-number_known TooMany = omega arith
-number_known OutOfOrder = omega arith
-number_known NotLeast = omega arith
-number_known BadFill = omega arith
-number_known LeftOver = omega arith
-number_known BadHeader = omega arith
+number_known (Ok t) = omega arith
+number_known (Err BadLanes) = omega arith
+number_known (Err BadWidth) = omega arith
+number_known (Err BadBlock) = omega arith
+number_known (Err NoRoom) = omega arith
+number_known (Err CutShort) = omega arith
+number_known (Err TooWide) = omega arith
+number_known (Err TooMany) = omega arith
+number_known (Err OutOfOrder) = omega arith
+number_known (Err NotLeast) = omega arith
+number_known (Err BadFill) = omega arith
+number_known (Err LeftOver) = omega arith
+number_known (Err BadHeader) = omega arith

@@ -1,8 +1,8 @@
 -- What is claimed of what crosses to C: it loses nothing (proofs/Theorems).
 use Rattle.std.specs.Prelude.{◌≡◌, true, List, ℕ, ◌+◌, ◌≤◌, length, drop, take, Some}
 use Rattle.modes.specs.declared.Mode.{Mode}
-use Rattle.answers.specs.declared.Refusal.{Refusal}
-use Rattle.answers.specs.Refusals.{number_of}
+use Rattle.answers.specs.Refusals.{Tested}
+use Rattle.answers.specs.Answers.{number_in}
 use Rattle.files.specs.Opening.{is_file, open_answer}
 use Rattle.sisalshed.specs.Crossing.{mode_of, kind_of, first_given}
 use Rattle.sisalshed.specs.Calls.{body_crossed}
@@ -18,6 +18,6 @@ PartIsBody = (file : List ℕ) → take (body_crossed file).length (drop (body_c
 abbrev pub PartToTheEnd : Type 0
 PartToTheEnd = (file : List ℕ) → is_file file ≡ true → (body_crossed file).start + (body_crossed file).length ≡ length file
 
--- the numbers are those of the C header's enum; no two refusals have one (answers/specs/Claims)
+-- the numbers are those of the C header's enum; no two outcomes have one (answers/specs/Claims)
 abbrev pub NumberKnown : Type 0
-NumberKnown = (k : Refusal) → number_of k ≤ 12
+NumberKnown = (k : Tested) → number_in k ≤ 12

@@ -13,13 +13,13 @@ word_of x e = omega arith
 pub returns-then-width-left-clause-row_of : goal.returns-then-width-left-clause-row_of
 returns-then-width-left-clause-row_of c =
     let few = rw c.count-used.ensures.value at c.count-used.ensures.bounds in
-    reach_row _ _ _ _ c.requires.holds_bits few.1 (rw (word_of _ c.div_ceil-word.ensures, c.bits-width.ensures.value) at c.if-width-left.true) c.mask.ensures c.set1-ones.ensures c.op_and.ensures
+    reach_row _ _ _ _ c.requires.holds_bits few.1 (omega (arith, rw (word_of _ c.div_ceil-word.ensures, c.bits-width.ensures.value) at c.if-width-left.true)) c.mask.ensures c.set1-ones.ensures c.op_and.ensures
 
 pub returns-then-width-left-clause-rest_holds : goal.returns-then-width-left-clause-rest_holds
 returns-then-width-left-clause-rest_holds c =
     let few = rw c.count-used.ensures.value at c.count-used.ensures.bounds in
     let width = c.bits-width.ensures.value in
-    let reach = rw (word_of _ c.div_ceil-word.ensures, width) at c.if-width-left.true in
+    let reach : c.args.width ≤ bits_left c.args.width c.args.row = omega (arith, rw (word_of _ c.div_ceil-word.ensures, width) at c.if-width-left.true) in
     reach_held _ _ _ _ c.requires.holds_bits few.1 reach (rw width at c.right_shift_32.ensures)
 
 -- a word that is read lies in the bytes

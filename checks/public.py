@@ -16,7 +16,7 @@ import sys
 TOP = pathlib.Path(__file__).resolve().parent.parent
 # docs/PROMISES.md, "What no contract says": what is read, and what is written to a stream
 NOT_DETERMINED = {("streams", name) for name in ("read_full", "read_input", "write_output", "warn_of_arguments")}
-NOT_DETERMINED |= {("tables", "for_each_line")}
+NOT_DETERMINED |= {("tables", "for_each_line"), ("tables", "on_first")}
 PUBLIC = re.compile(r'^ *pub (?:(?:unsafe|const) )*(?:extern "C" )?fn (\w+)(?:<.*?>)?\(', re.M)
 IMPL = re.compile(r"^impl(?:<.*?>)? (?:\w+ for )?(\w+)", re.M)
 CONTRACT = re.compile(r"^use Rattle\.(\w+)\.proofs\.((?:\w+\.)*\w+)\.(Reads|Kinds) as (\w+)$", re.M)
@@ -24,11 +24,11 @@ ASKS_NOTHING = re.compile(r"^(\w+)_asks_nothing : (AsksNothing) (\w+)_kinds\.ps 
 # The same of a function over any type, a handle, a reader, a writer, an item, and over what runs on each item, where that borrows nothing
 # itself: written out, or in a module of such functions. Of what it is given there are two premises more, and no others: an item is converted
 # to one number, and what runs may always be called.
-GHOSTS = r"(?: \(copy : IsCopy T\)| \(\w+ : \w*Ghosts T\.Denot(?: ℕ)?\)| \(\w+ : \w*Ghosts T F\)| \([\w' ]+ : Dict\))*"
-ANY_TYPE = r"\(T(?: F)? : RattleType\) \(laws : Laws T\)(?: \(laws' : Laws F\))?" + GHOSTS
-FREE = r" \(free : T\.lives ≡ \[\]\)(?: \(free' : F\.lives ≡ \[\]\))?"
-PREMISE = r"(?: \(number : T\.Denot → ℕ\) \(gives : Converts g\.converts number\)| \(always : \(run : F\.Denot\) → always_mut h run\))?"
-OF_ANY = r"(\w+)_asks_nothing : %s(AsksNothing) \((\w+)_kinds\.ps T (?:F )?laws[\w' ]*\) \(\3\.Pre T (?:F )?laws[\w' ]*\)()$"
+GHOSTS = r"(?: \(copy : IsCopy T\)| \(\w+ : \w*Ghosts T\.Denot(?: ℕ)?\)| \(\w+ : \w*Ghosts T (?:A )?F\)| \([\w' ]+ : Dict\))*"
+ANY_TYPE = r"\(T(?: A)?(?: F)? : RattleType\) \(laws : Laws T\)(?: \(laws'+ : Laws [AF]\))*" + GHOSTS
+FREE = r" \(free : T\.lives ≡ \[\]\)(?: \(free'+ : [AF]\.lives ≡ \[\]\))*"
+PREMISE = r"(?: \(number : T\.Denot → ℕ\) \(gives : Converts g\.converts number\)| \(always : \(run : F\.Denot\) → always_mut h run\)| \(always : \(call : F\.Denot\) → always_once k call\))?"
+OF_ANY = r"(\w+)_asks_nothing : %s(AsksNothing) \((\w+)_kinds\.ps T (?:A )?(?:F )?laws[\w' ]*\) \(\3\.Pre T (?:A )?(?:F )?laws[\w' ]*\)()$"
 ASKS_NOTHING_OF_ANY = re.compile("^" + OF_ANY % (ANY_TYPE + r" → T\.lives ≡ \[\]\s+→ "), re.M)
 ASKS_NOTHING_IN_MODULE = re.compile("^  " + OF_ANY % "", re.M)
 DETERMINED_IN_MODULE = re.compile(

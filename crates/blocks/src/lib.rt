@@ -17,6 +17,9 @@ mod rows;
 mod unpack;
 mod words;
 
+// (Lanes and width are numbers here, and not the types: README and docs/CALLS.md say that the calls take any. That a payload is long enough
+// stands in clauses further in, and not in a type: packing is lent it to write and unpacking to read, which would be two types.)
+
 // Payload size: how many bytes a packed block has.
 pub fn compressed_block_size(lanes: usize, width: u32) -> Answer
     ensures { result ≡ size_answer lanes width }

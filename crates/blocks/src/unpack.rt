@@ -12,7 +12,8 @@ use lanes::scalar::{left_shift_32, op_and, op_or, right_shift_32, set1};
 use lanes::{Lanes, Width};
 use modes::{Mode, initial_value, process};
 
-// So many bits, all 1. (In 64 bits: in 32, both the shift and the 1 taken off would wrap.)
+// So many bits, all 1. (In 64 bits, where neither the shift nor the 1 taken off wraps. No plainer by `unbounded_shr` of all ones: it says the
+// clause backwards.)
 fn mask(width: Width) -> u32
     ensures { result ≡ 2 ^ width - 1 }
 {

@@ -2,7 +2,7 @@
 use answers::{Answer, Refusal};
 use blocks::{compress, compressed_block_size, decompress, num_bits};
 use modes::Mode;
-use tables::buffers::{BYTE_MARK, VALUE_MARK};
+use tables::buffers::{BYTE_MARK, VALUE_MARK, on_first};
 use tables::words::{amount, mode, narrow};
 
 // More bytes than the largest payload has, and more values than the largest block.
@@ -37,16 +37,18 @@ impl Case {
     // Pack into so much room, and the output, all of which was marks before.
     pub(crate) fn pack(self, values: &[u32], room: usize) -> (Answer, [u8; BYTES]) {
         let mut bytes = [BYTE_MARK; BYTES];
-        let output = &mut bytes[..room.min(BYTES)];
-        let packed = compress(self.lanes, self.mode, values, output, self.width);
+        let (packed, _) = on_first(&mut bytes, room, |output| {
+            compress(self.lanes, self.mode, values, output, self.width)
+        });
         (packed, bytes)
     }
 
     // Unpack into so much room, and the output, all of which was marks before.
     pub(crate) fn unpack(self, bytes: &[u8], room: usize) -> (Answer, [u32; VALUES]) {
         let mut values = [VALUE_MARK; VALUES];
-        let output = &mut values[..room.min(VALUES)];
-        let unpacked = decompress(self.lanes, self.mode, bytes, output, self.width);
+        let (unpacked, _) = on_first(&mut values, room, |output| {
+            decompress(self.lanes, self.mode, bytes, output, self.width)
+        });
         (unpacked, values)
     }
 }

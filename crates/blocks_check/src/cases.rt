@@ -104,7 +104,7 @@ pub(crate) fn there_and_back<F: FnOnce(&[u8]) -> io::Result<()>>(
 }
 
 // The first three values and the last, and what pack with no room answers and holds. (Where there are fewer than three values, that stands in
-// their places.)
+// their places: its output on every input stays.)
 fn some_values(rt: &impl Print, values: &[u32], packed: Answer, bytes: &[u8]) -> io::Result<()> {
     let kept = kept(bytes, BYTE_MARK);
     let sum = checksum(bytes);

@@ -13,6 +13,7 @@ mod cases;
 mod inputs;
 
 // The kinds: `calls`, `zero`, `trip`, and a block there and back with its `payload`, its `bytes` or what is `kept`.
+// (A `match` on a letter: it is the input's, and each arm is one call.)
 fn run_kind(rt: &impl Print, line: &[u8]) -> io::Result<()> {
     match letter_at(behind(b':', line), 1) {
         b'c' => all_calls(rt, line),

@@ -1,4 +1,5 @@
-// Lines of a header, found at the front of some bytes, and how long they are, if they are there.
+// Lines of a header, found at the front of some bytes, and how long they are, if they are there. (That they lie within the bytes stands in
+// clauses and not in a type, which would have to borrow the bytes: no plainer.)
 ghost use Rattle.std.specs.Prelude.{◌≡◌, ◌≤◌, length, IfSome};
 ghost use Rattle.files.specs.kernel.Finding.{mode_lines_in, settings_lines_in, size_lines_in, header_lines_in};
 
@@ -61,6 +62,7 @@ pub(crate) fn settings_lines(text: &[u8]) -> Option<Settings>
     ensures within { IfSome result (λ s. s.length ≤ length text.now) }
 {
     let laned = number_line(b"lanes=", text)?;
+    // (only asked: `Header` and `Settings` are public, and have the lanes as a number, as C is given it)
     Lanes::new(laned.value as usize).ok()?;
     let moded = mode_lines(&text[laned.length..])?;
     Some(Settings {

@@ -75,7 +75,8 @@ fn push_first_line(text: &mut ArrayString<LONGEST>, mode: Mode)
     }
 }
 
-// The text of a header. (No `impl Display`: nothing promises that a `write!` answers Ok, and `write` owes the file wherever there is room.)
+// The text of a header. (No `impl Display`: nothing promises that a `write!` answers Ok, and the clause `value` of `files::write` owes the file
+// wherever there is room.)
 #[tactic(auto, using(crate::proofs::Lines::header_put, text::proofs::Printed::printed))]
 pub(crate) fn header_text(header: Header) -> ArrayString<LONGEST>
     ensures { result.bytes ≡ header_text header }

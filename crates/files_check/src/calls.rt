@@ -2,7 +2,7 @@
 use files::heading::Header;
 use modes::{Initial, Mode};
 use std::{fmt, io};
-use tables::buffers::{BYTE_MARK, VALUE_MARK, VALUES, first};
+use tables::buffers::{BYTE_MARK, VALUE_MARK, VALUES, first, on_first};
 use tables::checksum;
 use tables::line::Outcome;
 
@@ -10,6 +10,7 @@ use tables::line::Outcome;
 const BYTES: usize = 20000;
 
 // The numbers of a header. The mode is two of them: 0 plain, 1 sorted, 2 strict with none, 3 strict with a number; and the first number, or 0.
+// (Numbers, since its output stays.)
 #[derive(Clone, Copy)]
 struct Numbers(Header);
 
@@ -44,9 +45,7 @@ pub(crate) fn show_header(rt: &impl Print, file: &[u8]) -> io::Result<()> {
 // Read: with so much room.
 fn read(file: &[u8], room: usize) -> Outcome {
     let mut values = [VALUE_MARK; VALUES];
-    let output = &mut values[..room.min(VALUES)];
-    let answer = files::read(file, output);
-    let sum = checksum(output);
+    let (answer, sum) = on_first(&mut values, room, |output| files::read(file, output));
     Outcome { answer, sum }
 }
 
@@ -63,9 +62,9 @@ pub(crate) fn show_read(rt: &impl Print, file: &[u8]) -> io::Result<()> {
 // Write: with so much room.
 fn write(lanes: usize, mode: Mode, values: &[u32], room: usize) -> Outcome {
     let mut bytes = [BYTE_MARK; BYTES];
-    let output = &mut bytes[..room.min(BYTES)];
-    let answer = files::write(lanes, mode, values, output);
-    let sum = checksum(output);
+    let (answer, sum) = on_first(&mut bytes, room, |output| {
+        files::write(lanes, mode, values, output)
+    });
     Outcome { answer, sum }
 }
 

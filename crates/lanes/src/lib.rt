@@ -28,6 +28,7 @@ impl Model for Lanes {
     ghost inverse = { λ n. record { count = n } };
 }
 
+// (`told` says again what the type says: a proof that has a `Lanes` as an argument is not told it otherwise.)
 impl Lanes {
     // So many lanes, or refusal 1.
     pub fn new(count: usize) -> Result<Lanes, Refusal>

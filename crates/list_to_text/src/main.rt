@@ -10,7 +10,8 @@ use std::io::Read;
 use streams::{read_input, warn_of_arguments, write_output};
 
 // Reads an input, and puts at the front of `output` all that goes out for it. Answers how many bytes that is. (text_to_list has the twin. One
-// function for both would have to be told what goes out, the room and the limit: a trait with two impls, which are longer than the twins.)
+// function for both, given the program as a closure, could say that it was called and no more: `room` and `all_of_it` name the program, and the
+// must-fail edits are of them.)
 fn converted<R: Read>(reader: &mut R, input: &mut [u8], output: &mut [u8]) -> usize
     requires longer_is_seen { limit < length input.old }
     requires room { 45056 ≤ length output.old }
@@ -23,7 +24,7 @@ fn converted<R: Read>(reader: &mut R, input: &mut [u8], output: &mut [u8]) -> us
 
 fn main(rt: HostRuntime) {
     warn_of_arguments(&rt);
-    // one byte more than an input may have
+    // one byte more than an input may have (arrays: the project has no heap)
     let mut input = [0u8; 65537];
     let mut output = [0u8; 45056];
     let length = converted(&mut rt.stdin(), &mut input, &mut output);

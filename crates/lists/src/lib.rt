@@ -25,7 +25,9 @@ mod framing;
 mod store;
 mod take;
 
-// Lanes and mode go side by side and not as one value: the lanes of a list stay, and past each block the mode is another.
+// Lanes and mode go side by side and not as one value: the lanes of a list stay, and past each block the mode is another. That something is at
+// most a block stands in clauses and not in a type: it is a count, a part of the values or the entries, and a type for each is no plainer.
+// (Lanes are a number in the calls: README and docs/CALLS.md say that they take any.)
 
 // The most values of a list.
 pub const MOST: usize = 4096;

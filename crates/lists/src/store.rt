@@ -36,7 +36,7 @@ fn past(mode: Mode, values: &[u32]) -> Mode
     }
 }
 
-// The length of the block of some values.
+// The length of the block of some values. (Measuring and storing stay two functions: the room is asked before anything is written.)
 fn length_of(lanes: Lanes, mode: Mode, values: &[u32]) -> usize
     requires { length values.now ≤ block_size lanes }
     ensures { result ≡ length (block lanes (entries_of mode values.now)) }
@@ -64,7 +64,8 @@ pub(crate) fn body_length(lanes: Lanes, mode: Mode, values: &[u32]) -> usize
 // The length of the longest body: 128 blocks of 129 bytes, with 1 lane.
 const LONGEST: usize = 16512;
 
-// Whether the body of some values fits. It is measured only where a longer one might not.
+// Whether the body of some values fits. It is measured only where a longer one might not. (Tried without `is_lanes`, and the proof did not
+// close: of an argument it is not told what the type `Lanes` says.)
 pub(crate) fn has_room(lanes: Lanes, mode: Mode, values: &[u32], room: usize) -> bool
     requires { (is_lanes lanes ≡ true) × (length values.now ≤ most) }
     ensures { result ≡ leb (length (body_of lanes mode values.now)) room }

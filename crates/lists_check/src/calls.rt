@@ -3,8 +3,7 @@ use crate::inputs::{count, lanes};
 use answers::Answer;
 use modes::Mode;
 use std::io;
-use tables::buffers::{BYTE_MARK, VALUE_MARK, VALUES, first};
-use tables::checksum;
+use tables::buffers::{BYTE_MARK, VALUE_MARK, VALUES, first, on_first};
 use tables::line::{Excerpt, Outcome};
 use tables::words::{mode, value};
 
@@ -20,9 +19,9 @@ pub(crate) fn body_of(lanes: usize, mode: Mode, values: &[u32]) -> ([u8; BYTES],
 
 pub(crate) fn write(case: &[u8], values: &[u32], room: usize) -> Outcome {
     let mut bytes = [BYTE_MARK; BYTES];
-    let output = &mut bytes[..room.min(BYTES)];
-    let answer = lists::write(lanes(case), mode(case), values, output);
-    let sum = checksum(output);
+    let (answer, sum) = on_first(&mut bytes, room, |output| {
+        lists::write(lanes(case), mode(case), values, output)
+    });
     Outcome { answer, sum }
 }
 
@@ -44,11 +43,11 @@ pub(crate) fn read(
     room: usize,
 ) -> io::Result<()> {
     let mut values = [VALUE_MARK; VALUES];
-    let output = &mut values[..room.min(VALUES)];
-    let answer = call(case, lanes, bytes, output);
-    let sum = checksum(output);
+    let (answer, sum) = on_first(&mut values, room, |output| {
+        call(case, lanes, bytes, output)
+    });
     let read = Excerpt {
-        values: first(output, answer.unwrap_or(0)),
+        values: first(&values, answer.unwrap_or(0)),
         shown: 4,
     };
     print!(rt; "{}:{read}", Outcome { answer, sum })

@@ -31,6 +31,7 @@ impl Written {
 
     // What comes of reading a body: 0 where it is accepted and the list that was read gives this body again, and else 12; the number of a
     // refusal that left the output as it was, and else 13.
+    // (A number and no enum: it is the place in the tally, which is written by its places.)
     fn outcome(&self, body: &[u8]) -> u32 {
         let mut output = [VALUE_MARK; VALUES];
         match lists::read(self.lanes, self.mode, self.count, body, &mut output) {
@@ -45,6 +46,7 @@ impl Written {
     // reached.)
     fn outcomes(&self, body: &mut [u8]) -> [u32; 14] {
         let mut outcomes = [0u32; 14];
+        // (By place: the byte there is changed, the whole body is read, and the byte is put back.)
         for place in 0..body.len() {
             for bits in CHANGES {
                 body[place] ^= bits;

@@ -1,6 +1,5 @@
 // The lists that are written, each made from the words of its case.
-ghost use Rattle.std.specs.Prelude.{◌≤◌};
-
+use lanes::Lanes;
 use tables::buffers::VALUES;
 use tables::noise_after;
 use tables::words::{amount, letter_at, narrow, second, value};
@@ -15,24 +14,13 @@ pub(crate) fn count(case: &[u8]) -> usize {
     amount(b'c', case) as usize
 }
 
-// How many values a block has.
-fn block_size(lanes: usize) -> usize
-    ensures { 32 ≤ result }
-{
-    match lanes {
-        1 => 32,
-        4 => 128,
-        _ => 256,
-    }
-}
-
 // Number k of noise: the first bits of x, as many as the width of its block, (32 + 17b) mod 33 in block b. In a block's first number they
-// are all 1.
+// are all 1. (Lanes that no block has are taken as 8.)
 fn noise(lanes: usize, k: usize, x: u32) -> u32 {
-    let size = block_size(lanes);
+    let size = Lanes::new(lanes).map_or(256, Lanes::block_size);
     let all = if k % size == 0 { u32::MAX } else { x };
     let left_out = 32 - (32 + k / size % 33 * 17) % 33;
-    all.checked_shr(left_out as u32).unwrap_or(0)
+    all.unbounded_shr(left_out as u32)
 }
 
 // The rule of the values: `values=noise` is noise, `values=rising` goes on by more than 0, and `values=5:2` begins with 5 and goes on by 2
@@ -45,6 +33,7 @@ enum Rule {
 }
 
 impl Rule {
+    // (A `match` on a letter: it is the input's, and each arm is one value.)
     fn of(case: &[u8]) -> Rule {
         match letter_at(value(b'v', case), 0) {
             b'n' => Rule::Noise,

@@ -17,8 +17,10 @@ mod stops;
 
 // `list`: a list is written and read back. `change`: its body is read with one byte changed. `body`: a body that may be wrong is read.
 // `stop`: such a body is checked. `part`: a block of such a body is checked and read by itself. Any other line is only written.
-fn run_case(rt: &impl Print, kind: u8, case: &[u8]) -> io::Result<()> {
-    match kind {
+// (A `match` on a letter: it is the input's, and each arm is one call.)
+fn run_case(rt: &impl Print, line: &[u8]) -> io::Result<()> {
+    let case = behind(b' ', line);
+    match letter_at(line, 0) {
         b'l' => list_case(rt, case),
         b'c' => change_case(rt, case),
         b'b' => on_body(case, |body| read_body(rt, case, body)),
@@ -30,7 +32,7 @@ fn run_case(rt: &impl Print, kind: u8, case: &[u8]) -> io::Result<()> {
 
 fn run_line(rt: &impl Print, line: &[u8]) -> io::Result<()> {
     rt.write_all(line)?;
-    run_case(rt, letter_at(line, 0), behind(b' ', line))?;
+    run_case(rt, line)?;
     println!(rt)
 }
 

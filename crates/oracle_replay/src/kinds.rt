@@ -12,6 +12,7 @@ pub(crate) enum Kind {
 }
 
 impl Kind {
+    // (A mode from a kind and a number: these are the record's own.)
     pub(crate) fn mode(self, first: u32) -> Mode {
         match self {
             Kind::Plain => Mode::Plain,

@@ -47,6 +47,7 @@ impl Head {
     fn unpacks(&self, mode: Mode, payload: &[u8], values: &[u32]) -> bool {
         let mut ours = [0; 256];
         let answer = decompress(self.lanes.count(), mode, payload, &mut ours, self.width);
+        // (A refusal counts as 0: what it writes on every input stays.)
         answer.unwrap_or(0) == payload.len() && ours.starts_with(values)
     }
 
@@ -54,6 +55,7 @@ impl Head {
     fn packs(&self, mode: Mode, payload: &[u8], values: &[u32]) -> bool {
         let mut ours = [0; 1024];
         let answer = compress(self.lanes.count(), mode, values, &mut ours, self.width);
+        // (A refusal counts as 0: what it writes on every input stays.)
         answer.unwrap_or(0) == payload.len() && ours.starts_with(payload)
     }
 
@@ -73,12 +75,14 @@ impl Head {
         Seen {
             values: self.unpacks(mode, payload, values),
             payload: self.packs(mode, payload, values),
+            // (A refusal counts as 0: what it writes on every input stays.)
             least: ours.unwrap_or(0) == u32::from(least),
         }
     }
 
     // The next record, and the checksum of the list with it.
     pub(crate) fn replay<R: Read>(&self, list: &mut R, sum: u32) -> io::Result<(Seen, u32)> {
+        // (A refusal counts as 0: what it writes on every input stays. Of lanes and a width to 32 there is none.)
         let size = compressed_block_size(self.lanes.count(), self.width).unwrap_or(0);
         let length = 4 * self.lanes.block_size();
         let head: [u8; 8] = next_bytes(list, 8)?;

@@ -23,7 +23,7 @@ mod lines;
 // The most bytes of an input.
 pub const LIMIT: usize = 65536;
 
-// The most bytes of a list's lines: 4,096 of ten digits and byte 10.
+// The most bytes of a list's lines: 4,096 of ten digits and byte 10. (Buffers are arrays of the most there can be: the project has no heap.)
 const LONGEST_TEXT: usize = 45056;
 
 // The text at the front of `out`, or 4.

@@ -28,7 +28,7 @@ pub(crate) fn read_values(bytes: &[u8], values: &mut [u32]) -> Option<usize>
     let mut rest = bytes;
     let mut count = 0;
     while let Some(line) = number_line(b"", rest) {
-        // (not `values.get_mut(count)`: after it no element is known)
+        // (Tried as `values.get_mut(count)`, and the proof did not close: after it no element is known.)
         if count < values.len() {
             values[count] = line.value;
         }

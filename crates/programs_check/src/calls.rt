@@ -1,8 +1,7 @@
 // One program on one input: a word with what it answers, and the checksum of its output afterwards.
 use answers::Answer;
 use std::io;
-use tables::buffers::{BYTE_MARK, BYTES};
-use tables::checksum;
+use tables::buffers::{BYTE_MARK, BYTES, on_first};
 use tables::line::Outcome;
 
 // With so much room.
@@ -10,9 +9,7 @@ fn call<F: Fn(&[u8], &mut [u8]) -> Answer>(program: F, input: &[u8], room: usize
     requires { F.IsAlwaysCallable program }
 {
     let mut bytes = [BYTE_MARK; BYTES];
-    let output = &mut bytes[..room.min(BYTES)];
-    let answer = program(input, output);
-    let sum = checksum(output);
+    let (answer, sum) = on_first(&mut bytes, room, |output| program(input, output));
     Outcome { answer, sum }
 }
 

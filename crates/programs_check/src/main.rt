@@ -15,6 +15,7 @@ mod calls;
 mod pieces;
 
 // The letter of the program, and the pieces. (There is room for more bytes than an input may have.)
+// (A `match` on a letter: it is the input's, and each arm is one call.)
 fn run_case(rt: &impl Print, text: &[u8]) -> io::Result<()> {
     let mut bytes = [0; 65540];
     let size = put_pieces(text, &mut bytes);

@@ -16,6 +16,7 @@ fn repeat(text: &[u8], times: usize, bytes: &mut [u8]) -> usize
 }
 
 // How many times: the number behind the `*`, and once where there is none.
+// (No `Option`: a number of a million or more is once too, so that one arm stands for both.)
 fn times(piece: &[u8]) -> usize {
     match decimal(behind(b'*', piece)) {
         times @ 0..1000000 => times as usize,
@@ -23,11 +24,10 @@ fn times(piece: &[u8]) -> usize {
     }
 }
 
-// The bytes of the piece at the front of a text. Answers how many.
-fn put_piece(text: &[u8], bytes: &mut [u8]) -> usize
+// The bytes of a piece. Answers how many.
+fn put_piece(piece: &[u8], bytes: &mut [u8]) -> usize
     ensures { result ≤ length bytes.new }
 {
-    let piece = before(b' ', text);
     repeat(before(b'*', piece), times(piece), bytes)
 }
 
@@ -36,10 +36,8 @@ pub(crate) fn put_pieces(text: &[u8], bytes: &mut [u8]) -> usize
     ensures { result ≤ length bytes.new }
 {
     let mut size = 0;
-    for (place, letter) in text.iter().enumerate() {
-        if *letter == b' ' {
-            size += put_piece(&text[place + 1..], &mut bytes[size..]);
-        }
+    for piece in text.split(|letter| *letter == b' ').skip(1) {
+        size += put_piece(piece, &mut bytes[size..]);
     }
     size
 }

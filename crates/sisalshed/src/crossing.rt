@@ -1,12 +1,14 @@
 // What crosses to C and back: an enum cannot, so the mode crosses as two numbers and the refusal as its number.
 ghost use Rattle.std.specs.Prelude.{◌≡◌};
 ghost use Rattle.sisalshed.specs.Crossing.{mode_of, kind_of, first_given, crossed, bad_kind};
+ghost use Rattle.sisalshed.specs.Calls.{header_from};
 
-use crate::CAnswer;
+use crate::{CAnswer, CHeader};
 use answers::{Answer, Refusal};
+use files::heading::Header;
 use modes::{Initial, Mode};
 
-// The mode of a kind, strict with a number for 3. There is no other kind.
+// The mode of a kind, strict with a number for 3. There is no other kind. (Two numbers: the C interface.)
 pub(crate) fn mode_of(kind: u32, first: u32) -> Option<Mode>
     ensures { result ≡ mode_of kind first }
 {
@@ -50,6 +52,27 @@ impl From<Answer> for CAnswer {
             Err(refusal) => CAnswer {
                 number: refusal.number(),
                 length: 0,
+            },
+        }
+    }
+}
+
+impl From<Result<Header, Refusal>> for CHeader {
+    ghost from_gives = { λ answer c. c ≡ header_from answer };
+
+    fn from(answer: Result<Header, Refusal>) -> CHeader {
+        match answer {
+            Ok(header) => CHeader {
+                number: 0,
+                lanes: header.lanes,
+                kind: kind_of(header.mode),
+                first: first_given(header.mode),
+                count: header.count,
+                bytes: header.bytes,
+            },
+            Err(refusal) => CHeader {
+                number: refusal.number(),
+                ..CHeader::default()
             },
         }
     }

@@ -5,11 +5,11 @@
 ghost use Rattle.std.specs.Prelude.{◌≡◌, length};
 ghost use Rattle.sisalshed.specs.Calls.{size_crossed, pack_crossed, pack_left, unpack_crossed, unpack_left, width_crossed, measure_crossed, write_list_crossed, write_list_left, read_list_crossed, read_list_left, header_crossed, body_crossed, read_file_crossed, read_file_left, write_file_crossed, write_file_left};
 
-use crossing::{bad_kind, first_given, kind_of, mode_of};
+use crossing::{bad_kind, mode_of};
 
 mod crossing;
 
-// The number of the refusal, and the length, the count or the width: 0 where it is refused.
+// The number of the refusal, and the length, the count or the width: 0 where it is refused. (The C interface, and so for the two below.)
 #[repr(C)]
 #[derive(Clone, Copy, Debug, PartialEq, Eq)]
 pub struct CAnswer {
@@ -160,23 +160,10 @@ pub extern "C" fn sisalshed_read_list(
 pub extern "C" fn sisalshed_header(file: &[u8]) -> CHeader
     ensures { result ≡ header_crossed file.now }
 {
-    match files::header(file) {
-        Ok(header) => CHeader {
-            number: 0,
-            lanes: header.lanes,
-            kind: kind_of(header.mode),
-            first: first_given(header.mode),
-            count: header.count,
-            bytes: header.bytes,
-        },
-        Err(refusal) => CHeader {
-            number: refusal.number(),
-            ..CHeader::default()
-        },
-    }
+    files::header(file).into()
 }
 
-// Where the body of a file stands, or 12.
+// Where the body of a file stands, or 12. (No `From`: its length is known of the file, and not of what was found.)
 #[unsafe(no_mangle)]
 pub extern "C" fn sisalshed_body(file: &[u8]) -> CBody
     ensures { result ≡ body_crossed file.now }

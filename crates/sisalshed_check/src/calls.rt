@@ -23,7 +23,7 @@ pub(crate) enum Call {
     WriteFile,
 }
 
-// The calls on values.
+// The calls on values. (A `match` on a letter: it is the input's, and each arm is one call.)
 fn of_values(letter: u8) -> Call {
     match letter {
         b'c' => Call::Compress,
@@ -35,7 +35,7 @@ fn of_values(letter: u8) -> Call {
     }
 }
 
-// The calls on bytes.
+// The calls on bytes. (A `match` on a letter: it is the input's, and each arm is one call.)
 fn of_bytes(letter: u8) -> Call {
     match letter {
         b'h' => Call::Header,
@@ -48,6 +48,7 @@ fn of_bytes(letter: u8) -> Call {
 
 impl Call {
     // By the first letter of its name, and of `write_` and `read_` by the letter behind; the size of a block has more behind `compress`.
+    // (A `match` on a letter: it is the input's, and each arm is one call, or hands on the letter that tells it.)
     pub(crate) fn of(line: &[u8]) -> Option<Call> {
         match letter_at(line, 0) {
             b'c' if letter_at(line, 8) != b' ' => Some(Call::BlockSize),

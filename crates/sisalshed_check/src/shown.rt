@@ -1,7 +1,7 @@
 // A call on the input of its case: all that it answers is written, with the checksum of the memory that it was lent to write.
 use sisalshed::{CAnswer, sisalshed_body, sisalshed_header};
 use std::io;
-use tables::buffers::{BYTE_MARK, BYTES, VALUE_MARK, VALUES, first};
+use tables::buffers::{BYTE_MARK, BYTES, VALUE_MARK, VALUES, first, on_first};
 use tables::words::{amount, given_values, value};
 use tables::{checksum, decode};
 
@@ -33,9 +33,9 @@ pub(crate) fn show_written<F: FnOnce(&[u32], &mut [u8]) -> CAnswer>(
 {
     let values = given_values(case);
     let mut bytes = [BYTE_MARK; BYTES];
-    let output = &mut bytes[..room(case).min(BYTES)];
-    let answer = call(first(&values, amount(b'v', case) as usize), output);
-    let sum = checksum(output);
+    let (answer, sum) = on_first(&mut bytes, room(case), |output| {
+        call(first(&values, amount(b'v', case) as usize), output)
+    });
     print!(rt; " answer={},{},{sum}", answer.number, answer.length)
 }
 
@@ -58,6 +58,7 @@ pub(crate) fn show_read<F: FnOnce(&[u8], &mut [u32]) -> CAnswer>(
 {
     on_bytes(case, |bytes| {
         let mut values = [VALUE_MARK; VALUES];
+        // (Tried by `on_first`, and the proof did not close: that the call may be made is not known in a closure within a closure.)
         let output = &mut values[..room(case).min(VALUES)];
         let answer = call(bytes, output);
         let sum = checksum(output);

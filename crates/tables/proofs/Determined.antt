@@ -2,7 +2,7 @@
 -- is what it leaves in the memory that it was lent to write.
 use mathlib.Core.List.{Mem, not-mem-nil}
 use denote.RattleType.{RattleType}
-use denote.Param.Always.{always_mut}
+use denote.Param.Always.{always_mut, always_once}
 use denote.Param.Laws.{Laws, IsCopy}
 use mir.Syntax.{Dict}
 use Rattle.std.proofs.Common.{◌≡◌, ℕ, List, [], subst, sym, refl, ◌∙◌}
@@ -15,6 +15,9 @@ use Rattle.tables.specs.Tables.{Converts}
 use Rattle.answers.specs.Promises.{AsksNothing, AnswerDetermined, SeenDetermined, Determined}
 use Rattle.tables.proofs.buffers.first.Reads as first
 use Rattle.tables.proofs.buffers.first.Kinds as first_kinds
+use Rattle.tables.specs.contracts.buffers.on_first.F-FnOnce.{Ghosts as CallGhosts}
+use Rattle.tables.proofs.buffers.on_first.Reads as on_first
+use Rattle.tables.proofs.buffers.on_first.Kinds as on_first_kinds
 use Rattle.tables.proofs.buffers.same_front.Reads as same_front
 use Rattle.tables.proofs.buffers.same_front.Kinds as same_front_kinds
 use Rattle.tables.proofs.checksum.Reads as checksum
@@ -173,3 +176,9 @@ module _ (T : RattleType) (laws : Laws T) (copy : IsCopy T) (h : CloneGhosts T.D
 module _ (T F : RattleType) (laws : Laws T) (laws' : Laws F) (g : ReadGhosts T.Denot) (d : Dict) (h : RunGhosts T F) (e e' e'' : Dict) (free : T.lives ≡ []) (free' : F.lives ≡ []) (always : (run : F.Denot) → always_mut h run) where
   for_each_line_asks_nothing : AsksNothing (for_each_line_kinds.ps T F laws laws') (for_each_line.Pre T F laws laws' g d h e e' e'')
   for_each_line_asks_nothing κs a = (outlives free, (outlives free', always a.1.0))
+
+-- whatever the items are, and whatever the call is and answers that is made on them and may always be made, where all three borrow nothing
+-- themselves
+module _ (T A F : RattleType) (laws : Laws T) (laws' : Laws A) (laws'' : Laws F) (copy : IsCopy T) (h : CloneGhosts T.Denot) (e : Dict) (g : IntoGhosts T.Denot ℕ) (d : Dict) (k : CallGhosts T A F) (e' e'' : Dict) (free : T.lives ≡ []) (free' : A.lives ≡ []) (free'' : F.lives ≡ []) (always : (call : F.Denot) → always_once k call) where
+  on_first_asks_nothing : AsksNothing (on_first_kinds.ps T A F laws laws' laws'' copy) (on_first.Pre T A F laws laws' laws'' copy h e g d k e' e'')
+  on_first_asks_nothing κs a = (outlives free, (outlives free', (outlives free'', always a.1.1.0)))

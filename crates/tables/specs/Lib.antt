@@ -1,3 +1,4 @@
+pub mod Claims
 pub mod Shown
 pub mod Tables
 pub mod Words

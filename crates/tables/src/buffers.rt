@@ -1,6 +1,10 @@
 // Marks, which a buffer is full of before a call, and the first so many of what a buffer holds.
-ghost use Rattle.std.specs.Prelude.{◌≡◌, min, length, take};
+ghost use Rattle.std.specs.Prelude.{◌≡◌, ℕ, min, length, take, drop};
+ghost use Rattle.std.specs.Fn.{FnOnceReturnsAtMut};
 ghost use Rattle.std.specs.List.{common_prefix_len};
+ghost use Rattle.tables.specs.Tables.{Converts, sum_from};
+
+use crate::checksum;
 
 // More bytes than any call or program writes, and more values than the longest list has.
 pub const BYTES: usize = 45064;
@@ -28,4 +32,22 @@ pub fn same_front<T: PartialEq>(items: &[T], others: &[T]) -> usize
         .zip(others)
         .take_while(|(item, other)| *item == *other)
         .count()
+}
+
+// A call on the first `room` items of a buffer, or on all where there are fewer: what it answers, and the checksum of what it left there.
+pub fn on_first<T: Copy + Into<u32>, A, F: FnOnce(&mut [T]) -> A>(
+    buffer: &mut [T],
+    room: usize,
+    call: F,
+) -> (A, u32)
+    requires { F.IsAlwaysCallable call }
+    ensures called { FnOnceReturnsAtMut F.FnOnce call (take (min room (length buffer.old)) buffer.old) result.0 (take (min room (length buffer.old)) buffer.new) }
+    ensures sum { (number : T → ℕ) → Converts T.converts number → result.1 ≡ sum_from number 0 (take (min room (length buffer.old)) buffer.new) }
+    ensures rest_unchanged { drop (min room (length buffer.old)) buffer.new ≡ drop (min room (length buffer.old)) buffer.old }
+{
+    let size = room.min(buffer.len());
+    let output = &mut buffer[..size];
+    let answer = call(output);
+    let sum = checksum(output);
+    (answer, sum)
 }

@@ -18,10 +18,10 @@ pub mod buffers;
 pub mod line;
 pub mod words;
 
-// More bytes than a table has.
+// More bytes than a table has. (The project has no heap: a table is read into memory of a fixed length.)
 const ROOM: usize = 262144;
 
-// Runs on each line of a text, until one fails.
+// Runs on each line of a text, until one fails. (By `split` a text that ends with the byte 10 would have one line more, an empty one.)
 fn for_each_line_of<F: FnMut(&[u8]) -> io::Result<()>>(text: &[u8], mut run: F) -> io::Result<()>
     requires { F.IsAlwaysCallable run }
     ensures { IfOk result (λ _. RanOn (CalledAt F.FnMut) run text.now) }
@@ -64,7 +64,8 @@ pub fn checksum<T: Copy + Into<u32>>(items: &[T]) -> u32
     checksum_from(0, items)
 }
 
-// What a letter of a hex number stands for; any other is 0, which `to_digit` would not say of A to F.
+// What a letter of a hex number stands for; any other is 0, which `to_digit` would not say of A to F. (A switch on a letter of the input: each
+// arm is one value.)
 fn digit(letter: u8) -> u8
     ensures value { result ≡ digit_of letter }
     ensures upper_bound { result < 16 }
@@ -83,7 +84,7 @@ pub fn decode(hex: &[u8], bytes: &mut [u8]) -> usize
     ensures upper_bound { (result ≤ length bytes.new) × (result ≡ length (take result bytes.new)) }
 {
     let count = (hex.len() / 2).min(bytes.len());
-    // (By place: tried over `iter_mut`, behind which no element is known, and the proof did not close.)
+    // (By place: over `iter_mut` and `enumerate` no plainer, the place is counted all the same.)
     for i in 0..count {
         bytes[i] = digit(hex[2 * i]) * 16 + digit(hex[2 * i + 1]);
     }

@@ -7,7 +7,7 @@ ghost use Rattle.tables.specs.Words.{before_of, behind_of, is_name, word_of, val
 
 use modes::{Initial, Mode};
 
-// The letter at a place, and 0 where there is none: each caller takes that as one more letter that tells nothing.
+// The letter at a place, and 0 where there is none. (No `Option`: each caller takes 0 as one more letter that tells nothing.)
 pub fn letter_at(text: &[u8], place: usize) -> u8
     ensures { result ≡ at text.now place }
 {
@@ -49,7 +49,8 @@ fn is_name(letter: u8, text: &[u8]) -> bool
     letter_at(text, 0) == b' ' && letter_at(text, 1) == letter
 }
 
-// The line from the name on that begins with a letter.
+// The line from the name on that begins with a letter. (Not by splitting it at blanks: the first word of a line has no blank before it, and is
+// none that is looked for.)
 #[tactic(auto, unfolding(crate::specs::Words::word_of))]
 fn word(letter: u8, line: &[u8]) -> &[u8]
     ensures { result.now ≡ word_of letter line.now }
@@ -80,7 +81,7 @@ fn with_digit(number: u64, digit: u8) -> u64
     (number % 1844674407370955162 * 10).wrapping_add(u64::from(digit % 48))
 }
 
-// The number that a text is the digits of, and the largest where there are none.
+// The number that a text is the digits of, and the largest where there are none. (No `Option`: each caller takes that as all that there is.)
 #[tactic(auto, unfolding(crate::specs::Words::decimal_of))]
 pub fn decimal(text: &[u8]) -> u64
     ensures { result ≡ decimal_of text.now }
@@ -101,7 +102,7 @@ pub fn amount(letter: u8, line: &[u8]) -> u64
     decimal(before(b':', value(letter, line)))
 }
 
-// The second of the two numbers of a word.
+// The second of the two numbers of a word, and the largest where there is none. (No `Option`, as of `amount`.)
 #[tactic(auto, unfolding(crate::specs::Words::second_of))]
 pub fn second(letter: u8, line: &[u8]) -> u64
     ensures { result ≡ second_of letter line.now }
@@ -109,7 +110,7 @@ pub fn second(letter: u8, line: &[u8]) -> u64
     decimal(behind(b':', value(letter, line)))
 }
 
-// A number as a value.
+// A number as a value. (There is no conversion that loses, so `as` is it.)
 pub fn narrow(number: u64) -> u32
     ensures { result ≡ number % 4294967296 }
 {
@@ -128,7 +129,8 @@ fn initial(first: &[u8]) -> Initial
     }
 }
 
-// The words `mode=plain`, `mode=sorted` or `mode=strict`, and `first=7` or `first=none`.
+// The words `mode=plain`, `mode=sorted` or `mode=strict`, and `first=7` or `first=none`. (A switch on a letter of the input: each arm is one
+// value.)
 #[tactic(auto, unfolding(crate::specs::Words::mode_in, crate::specs::Words::amount_of))]
 pub fn mode(line: &[u8]) -> Mode
     ensures { result ≡ mode_in line.now }

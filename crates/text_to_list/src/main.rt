@@ -24,7 +24,7 @@ fn converted<R: Read>(reader: &mut R, input: &mut [u8], output: &mut [u8]) -> us
 
 fn main(rt: HostRuntime) {
     warn_of_arguments(&rt);
-    // one byte more than an input may have
+    // one byte more than an input may have (arrays: the project has no heap)
     let mut input = [0u8; 65537];
     let mut output = [0u8; 16593];
     let length = converted(&mut rt.stdin(), &mut input, &mut output);

@@ -2,5 +2,5 @@
 use Rattle.std.proofs.Common.{◌≡◌, ◌≤◌, length}
 use Rattle.programs_check.proofs.pieces.put_pieces.Given as goal
 
-abbrev pub invariant-loop-place : goal.invariant-loop-place
-invariant-loop-place l = (l.size ≤ length l.bytes) × (length l.bytes ≡ length l.fn.bytes)
+abbrev pub invariant-loop-piece : goal.invariant-loop-piece
+invariant-loop-piece l = (l.size ≤ length l.bytes) × (length l.bytes ≡ length l.fn.bytes)

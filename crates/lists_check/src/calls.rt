@@ -10,7 +10,7 @@ use tables::words::{mode, value};
 // More bytes than the largest body has.
 pub(crate) const BYTES: usize = 16520;
 
-// Write with room to spare: the body, with marks behind it, and its length.
+// Write with room to spare: the body, with marks behind it, and its length. (No heap, and the marks are read too, so no slice of the body alone.)
 pub(crate) fn body_of(lanes: usize, mode: Mode, values: &[u32]) -> ([u8; BYTES], usize) {
     let mut bytes = [BYTE_MARK; BYTES];
     let written = lists::write(lanes, mode, values, &mut bytes);

@@ -1,4 +1,5 @@
 // The four block calls of document 01. Each takes any input, tests it in the order of "Numbers of refusal", and writes nothing where it refuses.
+// (`as` between `u32` and `usize`: there is no `From` between them.)
 #![tactic(auto)]
 
 ghost use Rattle.std.specs.Prelude.{◌≡◌, length};

@@ -26,7 +26,8 @@ fn store_word(out: &mut [u8], start: usize, v: u32)
     out[start..start + 4].copy_from_slice(&v.to_le_bytes());
 }
 
-// The row in the words from word `first` of the payload on, one for each lane in use.
+// The row in the words from word `first` of the payload on, one for each lane in use. (No plainer over `chunks_exact_mut`, which would be cut to
+// the row first.)
 pub(crate) fn store_words(out: &mut [u8], first: usize, lanes: Lanes, row: [u32; 8])
     requires { 4 * (first + lanes) ≤ length out.old }
     ensures { WordsStored first lanes row out.old out.new }

@@ -50,6 +50,7 @@ pub(crate) fn all_calls(rt: &impl Print, line: &[u8]) -> io::Result<()> {
 
 // The part of an output that is the payload.
 fn payload<'a>(line: &[u8], output: &'a [u8]) -> &'a [u8] {
+    // (A refusal counts as 0: its output on every input stays.)
     first(output, Case::of(line).size().unwrap_or(0))
 }
 

@@ -15,8 +15,8 @@ pub(crate) fn noise(seed: u32) -> [u8; BYTES] {
     bytes
 }
 
-// The value that has this entry. (Not `order::next_value`: no plainer, since this check stands on
-// blocks, which are below order.)
+// The value that has this entry. (No plainer by `order::next_value` and `order::after`: two calls and a mode that goes on, in place of a sum, and
+// a crate more.)
 fn value_after(mode: Mode, previous: u32, entry: u32) -> u32 {
     match mode {
         Mode::Plain => entry,

@@ -5,7 +5,7 @@ use answers::Refusal;
 use modes::Mode;
 
 // Where reading stopped: at what refusal if any, how many blocks it had taken, the place in the bytes where they end, how many values were left,
-// and the mode past those that the blocks hold.
+// and the mode past those that the blocks hold. (A struct: all this is told beside a refusal too.)
 #[derive(Clone, Copy, Debug, PartialEq, Eq)]
 pub struct Stop {
     pub outcome: Result<(), Refusal>,

@@ -1,4 +1,5 @@
 // The list file calls of document 01, and what they find a header by. Each takes any input; none limits the size of a file.
+// (`as` between `u32` and `usize`: there is no `From` between them. `write` takes lanes as any number: README and docs/CALLS.md say so.)
 #![tactic(auto)]
 
 ghost use Rattle.std.specs.Prelude.{◌≡◌, ◌≤◌, length, IfOk};
@@ -59,7 +60,7 @@ pub fn header(file: &[u8]) -> Result<Header, Refusal>
     Ok(found.header)
 }
 
-// The body of a file, or the empty part.
+// The body of a file, or the empty part. (No `Result`: document 01, "hands back the empty part", and a public call that could not fail.)
 pub fn open(file: &[u8]) -> &[u8]
     ensures { result.now ≡ open_answer file.now }
 {

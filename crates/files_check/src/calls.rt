@@ -98,6 +98,7 @@ pub(crate) fn show_written(rt: &impl Print, file: &[u8]) -> io::Result<()> {
         return Ok(());
     };
     let mut output = [VALUE_MARK; VALUES];
+    // (A refusal counts as 0: its output on every input stays.)
     let count = files::read(file, &mut output).unwrap_or(0);
     let values = first(&output, count);
     write_again(rt, header.lanes as usize, header.mode, values, file.len())

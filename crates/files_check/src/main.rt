@@ -19,7 +19,8 @@ fn run_file(rt: &impl Print, hex: &[u8]) -> io::Result<()> {
     show_written(rt, file)
 }
 
-// A line of the table: the name up to the first blank, and the file.
+// A line of the table: the name up to the first blank, and the file. (No plainer as one function of `tables`: the frame is two
+// lines, and what stands between is the program's own.)
 fn run_line(rt: &impl Print, line: &[u8]) -> io::Result<()> {
     rt.write_all(before(b' ', line))?;
     run_file(rt, behind(b' ', line))?;

@@ -1,4 +1,5 @@
 // How many lanes there may be and how wide an entry, rows of numbers, one for each lane, and the width of one number.
+// (`as` between `u32` and `usize`: there is no `From` between them.)
 #![tactic(auto)]
 
 ghost use Rattle.std.specs.Prelude.{◌≡◌, true, ℕ, ◌+◌, ◌*◌, ◌<◌, ◌≤◌};

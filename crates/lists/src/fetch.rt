@@ -43,8 +43,8 @@ pub(crate) fn fetch_last(lanes: Lanes, mode: Mode, count: usize, bytes: &[u8], v
 }
 
 // The list at the front of the values: full blocks from the running position onward, and then a last block that is not full.
-// (The places are counted: document 01 wants each block unpacked into the part that begins at the values already written, and behind
-// `chunks_mut` the kit tells nothing of the values that are left.)
+// (The places are counted: document 01 wants each block unpacked into the part that begins at the values already written, and no plainer
+// by `chunks_mut`: the place in the body would be counted all the same, and behind it no value that is left is known.)
 pub(crate) fn fetch_body(lanes: Lanes, mode: Mode, count: usize, body: &[u8], values: &mut [u32])
     requires { (count ≤ length values.old) × (accepted (frames_from lanes body.now (block_count lanes count)) ≡ true) }
     ensures { values.new ≡ over (list_of lanes mode count body.now) values.old }

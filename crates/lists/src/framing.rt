@@ -42,6 +42,7 @@ pub(crate) fn framed(lanes: Lanes, bytes: &[u8]) -> Result<Width, Refusal>
 }
 
 // The values of a payload, in a block of the reader's own.
+// (An array: document 01, "unpacked into a block of 256 numbers of the reader's own".)
 pub(crate) fn own_block(lanes: Lanes, mode: Mode, width: Width, payload: &[u8]) -> [u32; 256]
     requires { payload_size lanes width ≤ length payload.now }
     ensures room { block_size lanes ≤ length result }

@@ -32,7 +32,7 @@ mod take;
 // The most values of a list.
 pub const MOST: usize = 4096;
 
-// 1, 7, 8: the lanes, where the values are a list.
+// 1, 7, 8: the lanes, where the values are a list. (`told`: as of the methods of `Lanes`.)
 #[tactic(auto, unfolding(crate::specs::Calls::measure_refusal))]
 fn check_list(lanes: usize, mode: Mode, values: &[u32]) -> Result<Lanes, Refusal>
     ensures value { result ≡ answer (measure_refusal lanes mode values.now) lanes }

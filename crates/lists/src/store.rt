@@ -11,7 +11,7 @@ use lanes::Lanes;
 use modes::Mode;
 use order::{after, next_entry};
 
-// The entries of a block's values, and 0 behind them: "The last block is filled up with entries of 0."
+// The entries of a block's values, and 0 behind them: "The last block is filled up with entries of 0." (An array: the project has no heap.)
 fn filled_entries(mode: Mode, values: &[u32]) -> [u32; 256]
     requires { length values.now ≤ 256 }
     ensures { result ≡ over (entries_of mode values.now) (replicate 256 0) }
@@ -47,7 +47,7 @@ fn length_of(lanes: Lanes, mode: Mode, values: &[u32]) -> usize
     1 + compressed_block_size(count, width).unwrap()
 }
 
-// The length of the body of some values.
+// The length of the body of some values. (No plainer as a fold: the mode goes on with the sum.)
 pub(crate) fn body_length(lanes: Lanes, mode: Mode, values: &[u32]) -> usize
     requires { length values.now ≤ most }
     ensures { result ≡ length (body_of lanes mode values.now) }
@@ -90,7 +90,8 @@ fn store_block(lanes: Lanes, mode: Mode, values: &[u32], body: &mut [u8]) -> usi
     1 + compress(count, Mode::Plain, entries, &mut body[1..], width).unwrap()
 }
 
-// The body of some values, at the front of `body`. Answers its length.
+// The body of some values, at the front of `body`. Answers its length. (No plainer as a fold: each block is written behind those before, and the
+// mode goes on.)
 pub(crate) fn store_body(lanes: Lanes, mode: Mode, values: &[u32], body: &mut [u8]) -> usize
     requires { length (body_of lanes mode values.now) ≤ length body.old }
     ensures value { result ≡ length (body_of lanes mode values.now) }

@@ -14,6 +14,7 @@ pub(crate) const BYTES: usize = 16520;
 pub(crate) fn body_of(lanes: usize, mode: Mode, values: &[u32]) -> ([u8; BYTES], usize) {
     let mut bytes = [BYTE_MARK; BYTES];
     let written = lists::write(lanes, mode, values, &mut bytes);
+    // (A refusal counts as 0: its output on every input stays.)
     (bytes, written.unwrap_or(0))
 }
 

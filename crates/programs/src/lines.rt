@@ -6,7 +6,7 @@ ghost use Rattle.programs.specs.kernel.Lines.{lines_in, counted};
 
 use text::{number_line, put_number_line};
 
-// The values, one a line. Answers the length of the text.
+// The values, one a line. Answers the length of the text. (No plainer as a fold: each line is put behind those before.)
 pub(crate) fn put_values(values: &[u32], out: &mut [u8]) -> usize
     requires { length values.now * 11 ≤ length out.old }
     ensures value { result ≡ length (value_lines values.now) }

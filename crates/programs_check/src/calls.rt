@@ -22,6 +22,7 @@ pub(crate) fn run_program<F: Fn(&[u8], &mut [u8]) -> Answer>(
     requires { F.IsAlwaysCallable program }
 {
     let full = call(&program, input, BYTES);
+    // (A refusal counts as 0: its output on every input stays.)
     let length = full.answer.unwrap_or(0);
     print!(rt; " full={full} exact={}", call(&program, input, length))?;
     if 0 < length {

@@ -26,7 +26,8 @@ fn run_case(rt: &impl Print, text: &[u8]) -> io::Result<()> {
     }
 }
 
-// A line of the table: the name up to the first blank, and the case.
+// A line of the table: the name up to the first blank, and the case. (No plainer as one function of `tables`: the frame is two
+// lines, and what stands between is the program's own.)
 fn run_line(rt: &impl Print, line: &[u8]) -> io::Result<()> {
     rt.write_all(before(b' ', line))?;
     run_case(rt, behind(b' ', line))?;

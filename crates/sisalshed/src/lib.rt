@@ -1,5 +1,6 @@
 // The calls for C and Rust: what `include/sisalshed.h` declares. Each hands one call of ours on and asks nothing of the numbers, lengths
 // and bytes that it is given. A kind that is not 0 to 3 is 12, before every other number.
+// (`as` between `u32` and `usize`: there is no `From` between them.)
 #![tactic(auto)]
 
 ghost use Rattle.std.specs.Prelude.{◌≡◌, length};

@@ -29,6 +29,7 @@ pub fn read_full<R: Read>(reader: &mut R, bytes: &mut [u8]) -> io::Result<usize>
 
 // Reads an input to its end, at the front of `bytes`, and answers how much there is: all of `bytes` where there is more, and where a read
 // fails. Who lends one byte more than an input may have sees both as an input that is too long, and never as a shorter one.
+// (No `Result`: public, and it could not fail; `read_full` stands beside it.)
 pub fn read_input<R: Read>(reader: &mut R, bytes: &mut [u8]) -> usize
     ensures in_bounds { (result ≤ length bytes.new) × (result ≡ length (take result bytes.new)) }
     ensures whole { result < length bytes.new → IsWhole (R.remaining reader.old) (take result bytes.new) }

@@ -21,7 +21,8 @@ pub mod words;
 // More bytes than a table has. (The project has no heap: a table is read into memory of a fixed length.)
 const ROOM: usize = 262144;
 
-// Runs on each line of a text, until one fails. (By `split` a text that ends with the byte 10 would have one line more, an empty one.)
+// Runs on each line of a text, until one fails. (No plainer by `split`, which has one line more, an empty one, behind the
+// last byte 10, or by `split_inclusive`, whose pieces end in it.)
 fn for_each_line_of<F: FnMut(&[u8]) -> io::Result<()>>(text: &[u8], mut run: F) -> io::Result<()>
     requires { F.IsAlwaysCallable run }
     ensures { IfOk result (λ _. RanOn (CalledAt F.FnMut) run text.now) }
@@ -84,7 +85,7 @@ pub fn decode(hex: &[u8], bytes: &mut [u8]) -> usize
     ensures upper_bound { (result ≤ length bytes.new) × (result ≡ length (take result bytes.new)) }
 {
     let count = (hex.len() / 2).min(bytes.len());
-    // (By place: over `iter_mut` and `enumerate` no plainer, the place is counted all the same.)
+    // (By place: tried over `as_chunks` and `iter_mut`, and the proof did not close.)
     for i in 0..count {
         bytes[i] = digit(hex[2 * i]) * 16 + digit(hex[2 * i + 1]);
     }

@@ -8,7 +8,7 @@ use crate::checksum;
 use answers::{Answer, Refusal};
 use std::fmt;
 
-// The number of the refusal, and 0 where there is none.
+// The number of the refusal, and 0 where there is none. (A number: it is what is written.)
 pub fn number<T>(answer: &Result<T, Refusal>) -> u32
     ensures { result ≡ number_in answer.now }
 {

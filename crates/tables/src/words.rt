@@ -24,6 +24,7 @@ fn place_of(letter: u8, text: &[u8]) -> usize
         .unwrap_or(text.len())
 }
 
+// (No `Option` of what stands before or behind a letter, nor of a word: each caller takes the empty part as what is not there.)
 // What stands before the first place of a letter, and all where it has none.
 #[tactic(auto, unfolding(crate::specs::Words::before_of))]
 pub fn before(letter: u8, text: &[u8]) -> &[u8]
@@ -49,8 +50,8 @@ fn is_name(letter: u8, text: &[u8]) -> bool
     letter_at(text, 0) == b' ' && letter_at(text, 1) == letter
 }
 
-// The line from the name on that begins with a letter. (Not by splitting it at blanks: the first word of a line has no blank before it, and is
-// none that is looked for.)
+// The line from the name on that begins with a letter. (No plainer by splitting it at blanks: what is handed on is the rest
+// of the line, and not a piece.)
 #[tactic(auto, unfolding(crate::specs::Words::word_of))]
 fn word(letter: u8, line: &[u8]) -> &[u8]
     ensures { result.now ≡ word_of letter line.now }
@@ -110,7 +111,8 @@ pub fn second(letter: u8, line: &[u8]) -> u64
     decimal(behind(b':', value(letter, line)))
 }
 
-// A number as a value. (There is no conversion that loses, so `as` is it.)
+// A number as a value. (There is no conversion that loses, so `as` is it; nor is there a
+// `From` between `u32` and `usize`.)
 pub fn narrow(number: u64) -> u32
     ensures { result ≡ number % 4294967296 }
 {

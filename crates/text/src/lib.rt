@@ -87,7 +87,7 @@ pub struct Numeral {
     pub length: usize,
 }
 
-// The line of the name and a number that the bytes begin with.
+// The line of the name and a number that the bytes begin with. (`within` is a clause: a type would have to borrow the bytes, no plainer.)
 #[tactic(auto, using(crate::proofs::Found::finding))]
 pub fn number_line(name: &[u8], bytes: &[u8]) -> Option<Numeral>
     ensures value { result ≡ number_line name.now bytes.now }

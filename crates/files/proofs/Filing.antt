@@ -87,6 +87,9 @@ module _ (L : ℕ) (m : Mode) (vs before : List ℕ) (size : ℕ) (told : Ok siz
       first : Front text before begun
       first = record { fits = omega arith; here = rw (put, len) }
 
+      pub head_within : n ≤ length begun
+      head_within = omega (arith, front_length first n (sym len))
+
       enough : length (body_of L m vs) ≤ length behind
       enough = rw (part_length n begun) (omega (arith, front_length first n (sym len), tested.1))
 
@@ -96,13 +99,17 @@ module _ (L : ℕ) (m : Mode) (vs before : List ℕ) (size : ℕ) (told : Ok siz
       pub body_written : (r : Result ℕ Refusal) → r ≡ write_answer L m vs (length behind) → is_ok r ≡ true
       body_written r e = rw (e, body_accepted)
 
+      whole : (ys : List ℕ) → ys ≡ write_output L m vs behind → Front (text ++ body_of L m vs) before (put_mid n (length begun - n) begun ys)
+      whole ys came = front_part first n (sym len) (body_of L m vs) ys (omega (arith, tested.1)) (came ∙ rw body_accepted)
+
+      pub file_kept : (ys : List ℕ) → ys ≡ write_output L m vs behind → length (put_mid n (length begun - n) begun ys) ≡ length before
+      file_kept ys came = front_length (whole ys came) (n + size) (length-append text (body_of L m vs) ∙ rw (← tested.1, len) refl)
+
       pub file_done : (ys : List ℕ) → ys ≡ write_output L m vs behind
           → (Ok (n + size) ≡ write_file_answer L m vs (length before)) × (put_mid n (length begun - n) begun ys ≡ write_file_output L m vs before)
       unfolding file_for
       file_done ys came =
-          let there : ys ≡ over (body_of L m vs) behind = came ∙ rw body_accepted in
-          let whole : Front (text ++ body_of L m vs) before (put_mid n (length begun - n) begun ys) = front_part first n (sym len) (body_of L m vs) ys (omega (arith, tested.1)) there in
           let e : text ++ body_of L m vs ≡ file_for L m vs = ap (λ (t : List ℕ). t ++ body_of L m vs) text_is ∙ file_splits (header_for L m vs) (body_of L m vs) in
           let fit : length (file_for L m vs) ≤ length before = omega (arith, total, room) in
           rw (writing_parts L m vs (length (file_for L m vs)) (length before), tested.0, le-ltb (length before) (length (file_for L m vs)) fit)
-          (ap (λ (k : ℕ). Ok k) total, whole.here ∙ ap (λ (t : List ℕ). over t before) e)
+          (ap (λ (k : ℕ). Ok k) total, (whole ys came).here ∙ ap (λ (t : List ℕ). over t before) e)

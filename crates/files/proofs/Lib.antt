@@ -1,3 +1,4 @@
+pub mod Guards
 pub mod Lines
 pub mod Tried
 pub mod FoundLines

@@ -28,7 +28,8 @@ use Rattle.files.specs.Opening.{is_settings, settings_said, header_in, body_in, 
 use Rattle.files.specs.Calls.{list_in, read_file_refusal, file_for, write_file_answer}
 use Rattle.files.proofs.Theorems.{settings_sets}
 use Rattle.programs.specs.Lines.{value_lines}
-use Rattle.programs.specs.Programs.{refused_line, limit, limit_refusal, file_refusal, list_to_text, is_text, values_in, text_to_list}
+use Rattle.text.specs.Text.{same}
+use Rattle.programs.specs.Programs.{refused_line, rest_in, limit, limit_refusal, file_refusal, list_to_text, is_text, values_in, text_to_list}
 use Rattle.programs.specs.kernel.Forms.{form_refusal}
 
 -- from a file
@@ -64,6 +65,14 @@ module _ (file : List ℕ) where
 pub not_sound : (text : List ℕ) → length text ≤ limit → is_text text ≡ false → refused_line BadHeader ≡ text_to_list text
 unfolding text_to_list
 not_sound text fits h = sym (rw (le-ltb limit (length text) fits, h))
+
+pub no_settings_lem : (text : List ℕ) → length text ≤ limit → is_settings text ≡ false → refused_line BadHeader ≡ text_to_list text
+unfolding is_text
+no_settings_lem text fits h = not_sound text fits (rw h)
+
+is_text_lem : (text : List ℕ) → is_settings text ≡ true → same (value_lines (values_in text)) (rest_in text) ≡ true → is_text text ≡ true
+unfolding is_text
+is_text_lem text set sound = rw (set, sound)
 
 module _ (text : List ℕ) where
   set : is_text text ≡ true → is_settings text ≡ true

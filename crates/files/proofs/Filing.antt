@@ -24,8 +24,9 @@ use Rattle.lists.proofs.Accepts.{Measurable, measure_exactly, writing_parts, wri
 use Rattle.text.specs.Text.{decimal, line}
 use Rattle.files.specs.declared.heading.Header.{Header}
 use Rattle.files.specs.Header.{settings, file_of, header_text}
+use Rattle.files.specs.kernel.Lengths.{longest_header}
 use Rattle.files.specs.Calls.{header_for, file_for, write_file_answer, write_file_output}
-use Rattle.files.proofs.Lines.{header_are}
+use Rattle.files.proofs.Lines.{header_are, header_short}
 
 -- a file is its header's text, and the body
 pub file_splits : (h : Header) (body : List ℕ) → header_text h ++ body ≡ file_of h body
@@ -66,6 +67,9 @@ module _ (L : ℕ) (m : Mode) (vs before : List ℕ) (size : ℕ) (told : Ok siz
   module _ (text : List ℕ) (n : ℕ) (spelt : text ≡ header_text (record { lanes = L; mode = m; count = length vs; bytes = size })) (len : n ≡ length text) where
     text_is : text ≡ header_text (header_for L m vs)
     text_is = spelt ∙ rw tested.1
+
+    pub text_small : n ≤ longest_header
+    text_small = omega (arith, len, ap length spelt, header_short head)
 
     total : n + size ≡ length (file_for L m vs)
     unfolding file_for

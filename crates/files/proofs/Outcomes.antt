@@ -30,6 +30,10 @@ no_settings_lem file h = go (settings_lines_in file) h
     go None h = refl
     go (Some s) h = absurd cc
 
+-- what follows the header that was found
+pub counted : (file : List ℕ) {f : Found} → header_found file ≡ Ok f → length (body_in file) ≡ length file - f.start
+counted file {f} e = ap (λ (g : Found). length (drop g.start file)) (unwrapped _ e) ∙ length-drop f.start file
+
 -- a header that says another length than what follows has
 pub other_bytes : (file : List ℕ) {f : Found} → header_found file ≡ Ok f → (f.header.bytes ≡ length file - f.start → ⊥) → file_found file ≡ Err BadHeader
 unfolding is_file
@@ -37,8 +41,7 @@ other_bytes file {f} e h =
     let headed : is_headed file ≡ true = ap is_ok e in
     let found : found_in file ≡ f = unwrapped _ e in
     let said : (header_in file).bytes ≡ f.header.bytes = ap (λ (g : Found). g.header.bytes) found in
-    let size : length (body_in file) ≡ length file - f.start = ap (λ (g : Found). length (drop g.start file)) found ∙ length-drop f.start file in
-    rw (headed, ne_eqb (header_in file).bytes (length (body_in file)) (λ q. h (sym said ∙ q ∙ size))) refl
+    rw (headed, ne_eqb (header_in file).bytes (length (body_in file)) (λ q. h (sym said ∙ q ∙ counted file e))) refl
 
 -- what is no file is 12, and leaves the output as it was
 pub bad_file : (file : List ℕ) {k : Refusal} → file_found file ≡ Err k → (before : List ℕ)

@@ -94,7 +94,7 @@ filed file h =
     let a = and_both (is_headed file) _ h in
     record { headed = a.0; bytes = eqb-true _ _ a.1 }
 
-is_file_lem : (file : List ℕ) → Filed file → is_file file ≡ true
+pub is_file_lem : (file : List ℕ) → Filed file → is_file file ≡ true
 unfolding is_file
 is_file_lem file f = rw (f.headed, eq-eqb (header_in file).bytes (length (body_in file)) f.bytes)
 

@@ -2,7 +2,7 @@
 use files::heading::Header;
 use modes::{Initial, Mode};
 use std::{fmt, io};
-use tables::buffers::{BYTE_MARK, VALUE_MARK, VALUES, first, on_first};
+use tables::buffers::{BYTE_MARK, VALUES, first, marked_values, on_first};
 use tables::checksum;
 use tables::line::Outcome;
 
@@ -44,7 +44,7 @@ pub(crate) fn show_header(rt: &impl Print, file: &[u8]) -> io::Result<()> {
 
 // Read: with so much room.
 fn read(file: &[u8], room: usize) -> Outcome {
-    let mut values = [VALUE_MARK; VALUES];
+    let mut values = marked_values();
     let (answer, sum) = on_first(&mut values, room, |output| files::read(file, output));
     Outcome { answer, sum }
 }
@@ -87,7 +87,7 @@ fn write_again(
     print!(rt;
         " two={} many={} last={}",
         write(2, mode, values, BYTES),
-        write(lanes, Mode::Plain, &[VALUE_MARK; VALUES], BYTES),
+        write(lanes, Mode::Plain, &marked_values(), BYTES),
         write(lanes, last, values, BYTES)
     )
 }
@@ -97,7 +97,7 @@ pub(crate) fn show_written(rt: &impl Print, file: &[u8]) -> io::Result<()> {
     let Ok(header) = files::header(file) else {
         return Ok(());
     };
-    let mut output = [VALUE_MARK; VALUES];
+    let mut output = marked_values();
     // (A refusal counts as 0: its output on every input stays.)
     let count = files::read(file, &mut output).unwrap_or(0);
     let values = first(&output, count);

@@ -4,14 +4,14 @@
 
 use calls::{show_header, show_read, show_written};
 use std::io;
-use tables::buffers::{BYTE_MARK, BYTES};
+use tables::buffers::marked_bytes;
 use tables::words::{before, behind};
 use tables::{decode, for_each_line};
 
 mod calls;
 
 fn run_file(rt: &impl Print, hex: &[u8]) -> io::Result<()> {
-    let mut bytes = [BYTE_MARK; BYTES];
+    let mut bytes = marked_bytes();
     let size = decode(hex, &mut bytes);
     let file = &bytes[..size];
     show_header(rt, file)?;

@@ -74,13 +74,15 @@ pub fn compute_delta(curr: [u32; 8], prev: [u32; 8], lanes: usize) -> [u32; 8]
     from_fn(|l| curr[l].wrapping_sub(if l == 0 { last } else { curr[l - 1] }))
 }
 
-// The running sums of a row of differences, on top of the last number in use of the row before. (`usize`, as `or_collapse_to_u32`.)
+// The running sums of a row of differences, on top of the last number in use of the row before. (`usize`, as `or_collapse_to_u32`. Not by `map`,
+// which takes each number out of an `Option`; and not inlined: in the loop over the rows of a block a plain row would go lane by lane too.)
+#[inline(never)]
 pub fn integrate_delta(offset: [u32; 8], delta: [u32; 8], lanes: usize) -> [u32; 8]
     ensures { IsRow result (running (last_lane lanes offset) (at delta)) }
 {
     let mut sum = last_lane(offset, lanes);
-    delta.map(|difference| {
-        sum = sum.wrapping_add(difference);
+    from_fn(|l| {
+        sum = sum.wrapping_add(delta[l]);
         sum
     })
 }

@@ -1,7 +1,7 @@
 -- Laws of a string of bits and its numbers.
-use mathlib.Core.Path.{◌≡◌, refl, sym, ap}
+use mathlib.Core.Path.{◌≡◌, refl, sym, ◌∙◌, ap}
 use Prim.Native.Nat.{ℕ, zero, suc, ◌+◌, ◌*◌, ◌-◌, ◌/◌, ◌%◌, ◌^◌, ◌≤◌, ◌<◌}
-use native.Mathlib.Nat.{add-zero, zero-add, add-suc, add_assoc, mul-one, mul_assoc, mul_comm, add-mul, zero-mul, pow-succ', mod-one, le_refl, mul-mod_left}
+use native.Mathlib.Nat.{add-zero, zero-add, add-suc, add_assoc, mul-one, mul_assoc, mul_comm, add-mul, zero-mul, pow-succ', mod-one, le_refl, mul-mod_left, one-mul}
 use native.Mathlib.Omega.{arith}
 use native.Mathlib.Numerals.{one-add}
 use lib.Pow.{pow-add, high, low, mod-pow-add, shl_exact, shl-shr}
@@ -87,3 +87,7 @@ pub number_byte : (b : ℕ → ℕ) → Bits b → (s q : ℕ) → q < 4 → of_
 number_byte b h s q k =
     let e : 32 ≡ 8 * q + (8 + (24 - 8 * q)) = omega arith in
     rw (ap (of_bits b s) e, number_shr b h s (8 * q) (8 + (24 - 8 * q))) (number_mod b h (s + 8 * q) 8 (24 - 8 * q))
+
+-- a bit in a word
+pub one_shl : (w n : ℕ) → n < w → 1 * 2 ^ n % 2 ^ w ≡ 2 ^ n
+one_shl w n h = shl_exact 1 n w (omega arith) (omega arith) ∙ one-mul (2 ^ n)

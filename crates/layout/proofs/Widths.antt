@@ -35,6 +35,24 @@ unfolding fits
 fits_of e zero n f = refl
 fits_of e (suc m) n f = rw (fits_of e m n (λ k h. f k (omega arith)), lt-ltb (e m) (2 ^ n) (f m (omega arith)))
 
+-- one more fits
+pub fit_more : (e : ℕ → ℕ) (m n : ℕ) → Fit e m n → e m < 2 ^ n → Fit e (m + 1) n
+fit_more e m n f h k lt = go (dec_lt k m)
+  where
+    go : Dec (k < m) → e k < 2 ^ n
+    go (yes l) = f k l
+    go (no ge) =
+        let i : k ≡ m = omega arith in
+        rw i h
+
+-- one does not: then they do not
+pub fits_fails : (e : ℕ → ℕ) (m n k : ℕ) → k < m → 2 ^ n ≤ e k → fits e m n ≡ false
+fits_fails e m n k h big = go (fits e m n) refl
+  where
+    go : (b : Bool) → fits e m n ≡ b → fits e m n ≡ false
+    go false q = q
+    go true q = absurd (omega (arith, of_fits e m n q k h))
+
 pub fits_ext : (e f : ℕ → ℕ) (m n : ℕ) → ((k : ℕ) → k < m → e k ≡ f k) → fits e m n ≡ fits f m n
 unfolding fits
 fits_ext e f zero n same = refl
@@ -102,6 +120,13 @@ fits_exactly e m n f = (
   λ t. (width_least e m f).least n (of_fits e m n t),
   λ h. fits_of e m n (λ k lt. lt_of_lt_of_le ((width_least e m f).fit k lt) (pow_mono h)),
 )
+
+pub fits_not : (e : ℕ → ℕ) (m n : ℕ) → Fit e m 32 → n < least_width e m → fits e m n ≡ false
+fits_not e m n f h = go (fits e m n) refl
+  where
+    go : (b : Bool) → fits e m n ≡ b → fits e m n ≡ false
+    go false q = q
+    go true q = absurd (omega (arith, (fits_exactly e m n f).0 q))
 
 -- Or-ing. x fits the same widths as e 0, .., e (m - 1) do together.
 record Joins (e : ℕ → ℕ) (m x : ℕ) : Type 0 where

@@ -1,9 +1,9 @@
 -- The values of a body: one block, and a run of blocks.
 use mathlib.Core.Path.{◌≡◌, refl, sym, ◌∙◌, ap}
 use mathlib.Core.Bool.{true}
-use mathlib.Core.List.{List, ◌++◌, append_assoc, append-nil}
+use mathlib.Core.List.{List, [], ◌++◌, append_assoc, append-nil}
 use Prim.Native.Nat.{ℕ, zero, suc, ◌+◌, ◌-◌, ◌≤◌, ◌<◌, min}
-use native.Mathlib.Nat.{min-eq_left, min-eq_right}
+use native.Mathlib.Nat.{sub-zero, min-eq_left, min-eq_right}
 use native.Mathlib.Omega.{arith}
 use lib.ListN.{length, take, drop, length-append, get_or-append}
 use lib.Seq.{take-take}
@@ -12,7 +12,7 @@ use Rattle.layout.specs.Layout.{at, block_size, payload_size}
 use Rattle.answers.specs.Answers.{over}
 use Rattle.answers.specs.Refusals.{accepted}
 use Rattle.answers.proofs.Refusals.{both}
-use Rattle.answers.proofs.Fronts.{Front, front_length, front_part}
+use Rattle.answers.proofs.Fronts.{Front, front_none, front_length, front_part}
 use Rattle.answers.proofs.Parts.{part_is}
 use Rattle.layout.proofs.Tables.{length_table, take_table}
 use Rattle.modes.specs.Entries.{values}
@@ -25,7 +25,7 @@ use Rattle.bodies.specs.Body.{block_count}
 use Rattle.bodies.specs.Reading.{size_at, entry_at, entries_at, values_at, frame_refusal, block_refusal, refusal_from, list_of}
 use Rattle.bodies.proofs.Tests.{Framed, framed, frames, block_passed}
 use Rattle.bodies.proofs.Onward.{blocks_next, list_none, list_next}
-use Rattle.lists.proofs.Standing.{end_within, rest_there}
+use Rattle.lists.proofs.Standing.{byte_there, byte_narrow, end_within, rest_there}
 use Rattle.lists.specs.kernel.Steps.{frames_from}
 
 -- one block
@@ -80,6 +80,10 @@ pub record Fetching (L : ℕ) (m₀ : Mode) (count : ℕ) (body before : List �
   pub here : Front so_far before out
   pub good : accepted (frames_from L (drop place body) (block_count L (count - done))) ≡ true
 
+pub fetching_start : (L : ℕ) (m : Mode) (count : ℕ) (body before : List ℕ) → accepted (frames_from L body (block_count L count)) ≡ true → Fetching L m count body before m 0 0 before
+fetching_start L m count body before h =
+    record { fewer = omega arith; within = omega arith; so_far = []; far = refl; list = rw sub-zero; here = front_none before; good = rw sub-zero h }
+
 module _ {L : ℕ} {m₀ : Mode} {count : ℕ} {body before : List ℕ} {m : Mode} {place done : ℕ} {out : List ℕ}
     (f : Fetching L m₀ count body before m place done out) (lanes : 0 < L) (room : count ≤ length before) where
   pub out_length : length out ≡ length before
@@ -95,6 +99,12 @@ module _ {L : ℕ} {m₀ : Mode} {count : ℕ} {body before : List ℕ} {m : Mod
 
     next_whole : Framed L (drop place body)
     next_whole = framed L (drop place body) next.0
+
+    pub width_there : place < length body
+    width_there = byte_there L body place f.within next_whole
+
+    pub next_narrow : (w : ℕ) → w ≡ at body place → w ≤ 32
+    next_narrow = byte_narrow L body place f.within next_whole
 
     module _ (w size : ℕ) (is : w ≡ at body place) (sized : size ≡ 1 + payload_size L w) where
       pub next_within : place + size ≤ length body

@@ -7,7 +7,7 @@ use native.Mathlib.Numerals.{one-add}
 use native.Mathlib.Omega.{arith}
 use native.Mathlib.Decide.{dec_lt}
 use lib.ListN.{length, set, take, drop, replicate, length-append, length-set, get_or-append, get_or-eq_default}
-use lib.Seq.{get_or-take, get_or-drop, get_or-append-add, length-take-le}
+use lib.Seq.{take_all, get_or-take, get_or-drop, get_or-append-add, length-take-le}
 use borrow.Rule.Slice.PartMut.{mid_of, put_mid}
 use Rattle.layout.specs.Width.{fits}
 use Rattle.layout.specs.Layout.{at, Below, block_size, payload_size, packed, is_lanes}
@@ -51,6 +51,9 @@ module _ {m₀ : Mode} {vs zs : List ℕ} {m : Mode} {i : ℕ} {out : List ℕ} 
         mode = to ∙ after_more m₀ m vs i lt f.mode;
         here = rw (entries_more m₀ m vs i lt f.mode, ← is) (front_put f.here i (length_entries m₀ (take i vs) ∙ length-take-le i vs f.fewer) e room);
       }
+
+  pub filling_all : length vs ≤ i → out ≡ over (entries_of m₀ vs) zs
+  filling_all h = f.here.here ∙ ap (λ (t : List ℕ). over (entries_of m₀ t) zs) (take_all i vs h)
 
 -- the block of the entries es, which stand at the front of `own` with 0 behind them
 
@@ -226,6 +229,9 @@ storing_none L m vs before = record { run = stored_none L m vs; here = front_non
 module _ {L : ℕ} {m₀ : Mode} {vs before : List ℕ} {m : Mode} {rest : List ℕ} {done : ℕ} {out : List ℕ} (s : Storing L m₀ vs before m rest done out) where
   pub storing_length : length out ≡ length before
   storing_length = front_length s.here done s.run.far
+
+  pub storing_within : done ≤ length out
+  storing_within = omega (arith, storing_length, s.here.fits, s.run.far)
 
   module _ (lanes : 0 < L) (room : length (body_of L m₀ vs) ≤ length before) where
     pub storing_all : rest ≡ [] → (done ≡ length (body_of L m₀ vs)) × (out ≡ over (body_of L m₀ vs) before)

@@ -46,7 +46,7 @@ zeros_tell {b} xs h = go b h (fits (at xs) (length xs) 0) refl
     go true h false e = absurd (apart (sym (fits_of (at xs) (length xs) 0 (λ k lt. rw (h.0 refl k 0 lt) (omega arith))) ∙ e))
 
 -- the filling, as the part behind the list's own entries
-fill_part : (L k : ℕ) (es : List ℕ) → length es ≡ block_size L
+pub fill_part : (L k : ℕ) (es : List ℕ) → length es ≡ block_size L
     → fits (at (mid_of k (length es - k) es)) (length (mid_of k (length es - k) es)) 0 ≡ fits (λ i. at es (k + i)) (block_size L - k) 0
 fill_part L k es size =
     let len : length (mid_of k (length es - k) es) ≡ block_size L - k = part_length k es ∙ ap (λ (t : ℕ). t - k) size in
@@ -151,6 +151,9 @@ module _ {L : ℕ} {m₀ : Mode} {count : ℕ} {body : List ℕ} {b : ℕ} {s : 
 
       size_there : r.place ≡ size_at L (drop s.place body)
       size_there = ap (λ (u : Stop). u.place) took
+
+      pub left_there : r.left ≡ s.left - block_size L
+      left_there = ap (λ (u : Stop). u.left) took
 
       pub block_within : s.place + r.place ≤ length body
       block_within = omega (arith, (block_passed L s.mode (min (block_size L) s.left) (drop s.place body) good).frame.whole, size_there, length-drop s.place body, t.within)

@@ -3,7 +3,7 @@ use crate::inputs::{count, lanes};
 use answers::Answer;
 use modes::Mode;
 use std::io;
-use tables::buffers::{BYTE_MARK, VALUE_MARK, VALUES, first, on_first};
+use tables::buffers::{BYTE_MARK, first, marked_values, on_first};
 use tables::line::{Excerpt, Outcome};
 use tables::words::{mode, value};
 
@@ -43,7 +43,7 @@ pub(crate) fn read(
     bytes: &[u8],
     room: usize,
 ) -> io::Result<()> {
-    let mut values = [VALUE_MARK; VALUES];
+    let mut values = marked_values();
     let (answer, sum) = on_first(&mut values, room, |output| {
         call(case, lanes, bytes, output)
     });

@@ -3,7 +3,7 @@ use crate::calls::body_of;
 use crate::inputs::{count, lanes, list_of};
 use modes::Mode;
 use std::io;
-use tables::buffers::{VALUE_MARK, VALUES, first};
+use tables::buffers::{first, marked_values};
 use tables::checksum;
 use tables::line::Excerpt;
 use tables::words::mode;
@@ -33,7 +33,7 @@ impl Written {
     // refusal that left the output as it was, and else 13.
     // (A number and no enum: it is the place in the tally, which is written by its places.)
     fn outcome(&self, body: &[u8]) -> u32 {
-        let mut output = [VALUE_MARK; VALUES];
+        let mut output = marked_values();
         match lists::read(self.lanes, self.mode, self.count, body, &mut output) {
             Ok(_) if self.is_body_of(first(&output, self.count), body) => 0,
             Ok(_) => 12,

@@ -6,12 +6,28 @@ use native.Mathlib.Nat.{add-zero, add-suc, zero-mul}
 use native.Mathlib.Omega.{arith}
 use Rattle.layout.specs.Layout.{at}
 use Rattle.lanes.specs.Rows.{IsRow, last_lane}
-use Rattle.lanes.specs.Sums.{before}
+use Rattle.lanes.specs.Sums.{plus, before, running}
 use Rattle.layout.proofs.Products.{one_more}
 use Rattle.lanes.proofs.Rows.{lane_of}
 use Rattle.modes.specs.Entries.{first_of, entry_of, value_of, entries, values_from, values}
+use Rattle.modes.specs.declared.Initial.{Initial}
 use Rattle.modes.specs.declared.Mode.{Mode}
+use Rattle.modes.specs.declared.Mode.TheVariants.{Plain, Sorted, Strict}
 use Rattle.modes.proofs.Undo.{values_ext}
+
+-- the values of plain are the entries
+pub plain_values : (m : Mode) (p : ℕ) (d : ℕ → ℕ) (k : ℕ) → m ≡ Plain → d k ≡ values_from m p d k
+plain_values m p d zero h = rw h
+plain_values m p d (suc k) h = rw h
+
+-- running sums are the values of sorted, and of strict if each difference has 1 added
+pub sorted_sums : (f p : ℕ) (d : ℕ → ℕ) (k : ℕ) → running p d k ≡ values_from (Sorted f) p d k
+sorted_sums f p d zero = refl
+sorted_sums f p d (suc k) = ap (λ (t : ℕ). plus t (d (suc k))) (sorted_sums f p d k)
+
+pub strict_sums : (i : Initial) (p : ℕ) (x d : ℕ → ℕ) (k : ℕ) → ((j : ℕ) → j ≤ k → x j ≡ plus (d j) 1) → running p x k ≡ values_from (Strict i) p d k
+strict_sums i p x d zero h = ap (plus p) (h 0 (omega arith))
+strict_sums i p x d (suc k) h = ap₂ plus (strict_sums i p x d k (λ j le. h j (omega arith))) (h (suc k) (omega arith))
 
 -- the value before, at a place that is not the first
 before_at : (p : ℕ) (v : ℕ → ℕ) (k : ℕ) → 0 < k → v (k - 1) ≡ before p v k

@@ -2,13 +2,13 @@
 use mathlib.Core.Path.{◌≡◌, refl, sym, ◌∙◌, ap}
 use mathlib.Core.Bool.{true, false}
 use mathlib.Core.List.{List, [], ◌∷◌, ◌++◌}
-use Prim.Native.Nat.{ℕ, ◌+◌, ◌-◌, ◌<◌}
+use Prim.Native.Nat.{ℕ, ◌+◌, ◌-◌, ◌≤◌, ◌<◌}
 use native.Mathlib.Omega.{arith}
 use lib.ListN.{length, take, drop, take-append-drop}
-use Rattle.std.specs.Prelude.{Result, Err}
+use Rattle.std.specs.Prelude.{Result, Ok, Err}
 use Rattle.answers.specs.declared.Refusal.{Refusal}
 use Rattle.answers.specs.declared.Refusal.TheVariants.{OutOfOrder}
-use lib.Seq.{take-length}
+use lib.Seq.{take_all, take-length}
 use Rattle.layout.specs.Layout.{at}
 use Rattle.answers.proofs.Fronts.{take_more}
 use Rattle.modes.specs.declared.Mode.{Mode}
@@ -63,6 +63,9 @@ module _ {m next : Mode} (vs : List ℕ) (i : ℕ) (g : Going m (take i vs) next
         ap (ordered m) (sym (take-append-drop (i + 1) vs) ∙ ap (λ (t : List ℕ). t ++ drop (i + 1) vs) (take_more vs i lt))
         ∙ going_bad g (at vs i) bad (drop (i + 1) vs)
 
+  pub all_in_order : length vs ≤ i → ordered m vs ≡ true
+  all_in_order h = ap (ordered m) (sym (take_all i vs h)) ∙ g.order
+
 -- entries one by one: their values
 module _ {m next : Mode} (es : List ℕ) (i : ℕ) (g : Going m (values_of m (take i es)) next) where
   module _ (lt : i < length es) where
@@ -78,3 +81,9 @@ module _ {m next : Mode} (es : List ℕ) (i : ℕ) (g : Going m (values_of m (ta
         ap (values_of m) (sym (take-append-drop (i + 1) es)) ∙ values_append m (take (i + 1) es) (drop (i + 1) es) in
         let no : ordered m (values_of m es) ≡ false = rw (split, one_value) (going_bad g (next_value next (at es i)) bad _) in
         rw no
+
+  pub walk_through : length es ≤ i → ◌≡◌ {A = Result Mode Refusal} (Ok next) (course m (values_of m es))
+  walk_through h =
+      let all : take i es ≡ es = take_all i es h in
+      let g' : Going m (values_of m es) next = rw all at g in
+      rw (g'.order, g'.mode)

@@ -2,16 +2,17 @@
 use mathlib.Core.Path.{◌≡◌, refl, sym, ◌∙◌, ap}
 use mathlib.Core.Bool.{Bool, true, false, not}
 use mathlib.Core.List.{List}
-use Prim.Native.Nat.{ℕ, ◌≤◌}
+use Prim.Native.Nat.{ℕ, ◌≤◌, ◌<◌}
 use native.Mathlib.Omega.{arith}
-use borrow.Author.Tests.{le-ltb}
+use borrow.Author.Tests.{lt-ltb, le-ltb}
 use lib.Dec.{ltb}
 use lib.ListN.{length, take}
+use lib.Seq.{take_all}
 use Rattle.std.specs.Prelude.{Result, Ok, Err}
 use Rattle.layout.specs.Layout.{is_lanes}
 use Rattle.layout.proofs.LaneCounts.{lanes_of}
 use Rattle.layout.proofs.Widths.{and_both}
-use Rattle.answers.specs.Answers.{answer, written}
+use Rattle.answers.specs.Answers.{answer, over, written}
 use Rattle.answers.specs.declared.Refusal.{Refusal}
 use Rattle.answers.specs.declared.Refusal.TheVariants.{BadLanes, NoRoom, TooMany, OutOfOrder, BadHeader}
 use Rattle.answers.specs.Refusals.{Tested, accept, accepted, refuse, or_else}
@@ -29,22 +30,34 @@ use Rattle.files.specs.Calls.{list_in, read_file_refusal, file_for, write_file_a
 use Rattle.files.proofs.Theorems.{settings_sets}
 use Rattle.programs.specs.Lines.{value_lines}
 use Rattle.text.specs.Text.{same}
-use Rattle.programs.specs.Programs.{refused_line, rest_in, limit, limit_refusal, file_refusal, list_to_text, is_text, values_in, text_to_list}
+use Rattle.programs.specs.Programs.{refused_line, output, rest_in, limit, limit_refusal, file_refusal, list_to_text, is_text, values_in, text_to_list}
 use Rattle.programs.specs.kernel.Forms.{form_refusal}
 
 -- from a file
 
 module _ (file : List ℕ) where
+  pub file_too_long : 65536 < length file → refused_line BadHeader ≡ list_to_text file
+  unfolding list_to_text
+  file_too_long h = sym (rw (lt-ltb 65536 (length file) h))
+
   pub printed_values : accepted (file_refusal file) ≡ true → value_lines (list_in file) ≡ list_to_text file
   unfolding list_to_text
   printed_values h = sym (rw (accepted_is (file_refusal file) h))
+
+  module _ (fits : length file ≤ 65536) where
+    pub file_refused : {k : Refusal} → read_file_refusal file most ≡ Err k → refused_line k ≡ list_to_text file
+    unfolding list_to_text
+    file_refused h = sym (rw (le-ltb 65536 (length file) fits, h))
+
+    pub file_accepted : accepted (read_file_refusal file most) ≡ true → value_lines (list_in file) ≡ list_to_text file
+    file_accepted h = printed_values (rw (le-ltb 65536 (length file) fits) h)
 
   -- the list that was read
   module _ (h : accepted (read_file_refusal file most) ≡ true) where
     readable : Readable (header_in file).lanes (header_in file).mode (header_in file).count (body_in file) most
     readable = (read_exactly (header_in file).lanes (header_in file).mode (header_in file).count (body_in file) most).0 (both (header_refusal file) _ h).1
 
-    list_length : length (list_in file) ≡ (header_in file).count
+    pub list_length : length (list_in file) ≡ (header_in file).count
     list_length = length_list (header_in file).lanes (lanes_of (header_in file).lanes readable.lanes).0 (header_in file).mode (header_in file).count (body_in file)
 
     pub list_few : length (list_in file) ≤ most
@@ -58,6 +71,11 @@ module _ (file : List ℕ) where
       let n : length (list_in file) ≡ count = list_length (both (limit_refusal file) (read_file_refusal file most) good).1 ∙ sym p.1 in
       let kept : take count after ≡ list_in file = ap (take count) (o ∙ rw p.0 refl) ∙ take_over count (list_in file) before n in
       ap value_lines kept ∙ printed_values good
+
+-- the values that were read, in a place that is long enough for them
+pub values_kept : (before vs out : List ℕ) (n : ℕ) → length vs ≡ n → n ≤ length before → out ≡ over (take (length before) vs) before → take n out ≡ vs
+values_kept before vs out n e few h =
+    ap (take n) (h ∙ ap (λ (t : List ℕ). over t before) (take_all (length before) vs (omega (arith, e)))) ∙ take_over n vs before e
 
 -- from a text, that is refused
 
@@ -75,6 +93,10 @@ unfolding is_text
 is_text_lem text set sound = rw (set, sound)
 
 module _ (text : List ℕ) where
+  pub text_too_long : 65536 < length text → refused_line BadHeader ≡ text_to_list text
+  unfolding text_to_list
+  text_too_long h = sym (rw (lt-ltb 65536 (length text) h))
+
   set : is_text text ≡ true → is_settings text ≡ true
   unfolding is_text
   set h = (and_both (is_settings text) _ h).0
@@ -96,6 +118,22 @@ module _ (text : List ℕ) where
       go (Ok u) l false f c m = line_of {j = BadHeader} (rw (l, f) refl) ∙ sym (rw (l, f))
       go (Ok u) l true f true m = line_of {j = TooMany} (rw (l, f, m) refl) ∙ sym (rw (l, f, too_many f m))
       go (Ok u) l true f false m = absurd (let e : ◌≡◌ {A = Result A Refusal} (Err k) (Ok x) = rw (l, f, m) at h in cc)
+
+  -- one within the limit, of which the three lines are found: its values
+  module _ (fits : length text ≤ 65536) (given : is_settings text ≡ true) where
+    pub not_lines : same (value_lines (values_in text)) (rest_in text) ≡ false → refused_line BadHeader ≡ text_to_list text
+    unfolding is_text
+    not_lines h = not_sound text fits (rw (given, h))
+
+    module _ (sound : same (value_lines (values_in text)) (rest_in text) ≡ true) where
+      pub text_list_out : output (measure_refusal (settings_said text).lanes (settings_said text).mode (values_in text)) (file_for (settings_said text).lanes (settings_said text).mode (values_in text)) ≡ text_to_list text
+      unfolding text_to_list
+      text_list_out = sym (rw (le-ltb 65536 (length text) fits, is_text_lem text given sound))
+
+      pub text_too_many : most < length (values_in text) → refused_line TooMany ≡ text_to_list text
+      text_too_many h =
+          let k : measure_refusal (settings_said text).lanes (settings_said text).mode (values_in text) ≡ Err TooMany = too_many (is_text_lem text given sound) (lt-ltb most (length (values_in text)) h) in
+          sym (ap (λ (t : Tested). output t (file_for (settings_said text).lanes (settings_said text).mode (values_in text))) k) ∙ text_list_out
 
 -- a list, packed into a file
 

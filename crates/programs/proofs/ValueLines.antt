@@ -58,19 +58,22 @@ unfolding value_lines
 writing_none vs before = record { some = omega arith; size = refl; here = front_none before }
 
 module _ {vs before : List ℕ} {i n : ℕ} {out : List ℕ} (w : Writing vs before i n out) (room : length vs * 11 ≤ length before) where
-  writing_length : length out ≡ length before
+  pub writing_length : length out ≡ length before
   writing_length = front_length w.here n w.size
 
-  writing_short : n ≤ i * 11
+  pub writing_short : n ≤ i * 11
   writing_short = omega (arith, w.size, lines_short (take i vs), length-take-le i vs w.some)
 
   module _ (lt : i < length vs) where
-    writing_room : length (value_line (at vs i) []) ≤ length out - n
-    writing_room = omega (arith, writing_short, writing_length, number_line_short [] (at vs i))
+    pub writing_room : n + 11 ≤ length out
+    writing_room = omega (arith, writing_short, writing_length)
 
     -- there is room for the next line
+    line_room : length (value_line (at vs i) []) ≤ length out - n
+    line_room = omega (arith, writing_room, number_line_short [] (at vs i))
+
     writing_fits : leb (length (value_line (at vs i) [])) (length (mid_of n (length out - n) out)) ≡ true
-    writing_fits = le-leb _ _ (rw (part_length n out) writing_room)
+    writing_fits = le-leb _ _ (rw (part_length n out) line_room)
 
     pub writing_fitted : IsSome (fitted_length (value_line (at vs i) []) (mid_of n (length out - n) out))
     writing_fitted = rw writing_fits refl
@@ -84,8 +87,13 @@ module _ {vs before : List ℕ} {i n : ℕ} {out : List ℕ} (w : Writing vs bef
         record {
           some = omega arith;
           size = ap length e ∙ length-append (value_lines (take i vs)) (value_line v []) ∙ rw (w.size, len);
-          here = rw e (front_part w.here n w.size (value_line v []) ys (omega (arith, writing_length, writing_room)) (rw writing_fits at put));
+          here = rw e (front_part w.here n w.size (value_line v []) ys (omega (arith, writing_length, writing_room, line_room)) (rw writing_fits at put));
         }
+
+  pub writing_all : length vs ≤ i → (n ≡ length (value_lines vs)) × (out ≡ over (value_lines vs) before)
+  writing_all h =
+      let e : take i vs ≡ vs = take_all i vs h in
+      (sym w.size ∙ ap (λ (t : List ℕ). length (value_lines t)) e, w.here.here ∙ ap (λ (t : List ℕ). over (value_lines t) before) e)
 
 -- reading: the lines of the values `done` stand before `rest`, and those that there is room for at the front of `out`
 pub record Reading (bs before rest : List ℕ) (count : ℕ) (out : List ℕ) : Type 0 where
@@ -126,7 +134,7 @@ pub lines_none : (n : ℕ) → lines_from n [] ≡ []
 lines_none n = lines_stop n [] no_line
 
 module _ {bs before rest : List ℕ} {count : ℕ} {out : List ℕ} (r : Reading bs before rest count out) where
-  reading_length : length out ≡ length before
+  pub reading_length : length out ≡ length before
   reading_length = front_length r.here _ refl
 
   -- at a line that is none: there the values end, and they are all that there is where nothing is left
@@ -195,5 +203,5 @@ module _ {bs before rest : List ℕ} {count : ℕ} {out : List ℕ} (r : Reading
 
     pub reading_full : length out ≤ count → Reading bs before (mid_of l.length (length rest - l.length) rest) (count + 1) out
     reading_full full =
-        let less : take (length before) (r.done ++ (l.value ∷ [])) ≡ take (length before) r.done = take-append-le (length before) r.done (l.value ∷ []) (omega (arith, r.size, reading_length)) in
-        further (rw less r.here)
+        let same_front_lem : take (length before) (r.done ++ (l.value ∷ [])) ≡ take (length before) r.done = take-append-le (length before) r.done (l.value ∷ []) (omega (arith, r.size, reading_length)) in
+        further (rw same_front_lem r.here)

@@ -1,14 +1,14 @@
 // One program on one input: a word with what it answers, and the checksum of its output afterwards.
 use answers::Answer;
 use std::io;
-use tables::buffers::{BYTE_MARK, BYTES, on_first};
+use tables::buffers::{BYTES, marked_bytes, on_first};
 use tables::line::Outcome;
 
 // With so much room.
 fn call<F: Fn(&[u8], &mut [u8]) -> Answer>(program: F, input: &[u8], room: usize) -> Outcome
     requires { F.IsAlwaysCallable program }
 {
-    let mut bytes = [BYTE_MARK; BYTES];
+    let mut bytes = marked_bytes();
     let (answer, sum) = on_first(&mut bytes, room, |output| program(input, output));
     Outcome { answer, sum }
 }

@@ -46,6 +46,27 @@ fn of_bytes(letter: u8) -> Call {
     }
 }
 
+// The arguments of a call, each a word of its line.
+fn lanes(case: &[u8]) -> usize {
+    amount(b'l', case) as usize
+}
+
+fn kind(case: &[u8]) -> u32 {
+    narrow(amount(b'k', case))
+}
+
+fn first(case: &[u8]) -> u32 {
+    narrow(amount(b'f', case))
+}
+
+fn width(case: &[u8]) -> u32 {
+    narrow(amount(b'w', case))
+}
+
+fn count(case: &[u8]) -> usize {
+    amount(b'c', case) as usize
+}
+
 impl Call {
     // By the first letter of its name, and of `write_` and `read_` by the letter behind; the size of a block has more behind `compress`.
     // (A `match` on a letter: it is the input's, and each arm is one call, or hands on the letter that tells it.)
@@ -60,36 +81,53 @@ impl Call {
         }
     }
 
+    // (Each arm asks for the words that its call takes, and for no other: a word that is not there is looked for to the line's end.)
     pub(crate) fn run(self, rt: &impl Print, case: &[u8]) -> io::Result<()> {
-        let lanes = amount(b'l', case) as usize;
-        let kind = narrow(amount(b'k', case));
-        let first = narrow(amount(b'f', case));
-        let width = narrow(amount(b'w', case));
-        let count = amount(b'c', case) as usize;
         match self {
             Call::BlockSize => on_values(rt, case, |_| {
-                sisalshed_compressed_block_size(lanes, width)
+                sisalshed_compressed_block_size(lanes(case), width(case))
             }),
             Call::NumBits => on_values(rt, case, |values| {
-                sisalshed_num_bits(lanes, kind, first, values)
+                sisalshed_num_bits(lanes(case), kind(case), first(case), values)
             }),
             Call::MeasureList => on_values(rt, case, |values| {
-                sisalshed_measure_list(lanes, kind, first, values)
+                sisalshed_measure_list(lanes(case), kind(case), first(case), values)
             }),
             Call::Compress => show_written(rt, case, |values, output| {
-                sisalshed_compress(lanes, kind, first, values, output, width)
+                sisalshed_compress(
+                    lanes(case),
+                    kind(case),
+                    first(case),
+                    values,
+                    output,
+                    width(case),
+                )
             }),
             Call::WriteList => show_written(rt, case, |values, output| {
-                sisalshed_write_list(lanes, kind, first, values, output)
+                sisalshed_write_list(lanes(case), kind(case), first(case), values, output)
             }),
             Call::WriteFile => show_written(rt, case, |values, output| {
-                sisalshed_write_file(lanes, kind, first, values, output)
+                sisalshed_write_file(lanes(case), kind(case), first(case), values, output)
             }),
             Call::Decompress => show_read(rt, case, |bytes, output| {
-                sisalshed_decompress(lanes, kind, first, bytes, output, width)
+                sisalshed_decompress(
+                    lanes(case),
+                    kind(case),
+                    first(case),
+                    bytes,
+                    output,
+                    width(case),
+                )
             }),
             Call::ReadList => show_read(rt, case, |bytes, output| {
-                sisalshed_read_list(lanes, kind, first, count, bytes, output)
+                sisalshed_read_list(
+                    lanes(case),
+                    kind(case),
+                    first(case),
+                    count(case),
+                    bytes,
+                    output,
+                )
             }),
             Call::ReadFile => show_read(rt, case, |bytes, output| {
                 sisalshed_read_file(bytes, output)

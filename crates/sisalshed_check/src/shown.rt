@@ -1,7 +1,7 @@
 // A call on the input of its case: all that it answers is written, with the checksum of the memory that it was lent to write.
 use sisalshed::{CAnswer, sisalshed_body, sisalshed_header};
 use std::io;
-use tables::buffers::{BYTE_MARK, BYTES, VALUE_MARK, VALUES, first, on_first};
+use tables::buffers::{VALUES, first, marked_bytes, marked_values, on_first};
 use tables::words::{amount, given_values, value};
 use tables::{checksum, decode};
 
@@ -32,7 +32,7 @@ pub(crate) fn show_written<F: FnOnce(&[u32], &mut [u8]) -> CAnswer>(
     requires { F.IsAlwaysCallable call }
 {
     let values = given_values(case);
-    let mut bytes = [BYTE_MARK; BYTES];
+    let mut bytes = marked_bytes();
     let (answer, sum) = on_first(&mut bytes, room(case), |output| {
         call(first(&values, amount(b'v', case) as usize), output)
     });
@@ -43,7 +43,7 @@ pub(crate) fn show_written<F: FnOnce(&[u32], &mut [u8]) -> CAnswer>(
 pub(crate) fn on_bytes<F: FnOnce(&[u8]) -> io::Result<()>>(case: &[u8], run: F) -> io::Result<()>
     requires { F.IsAlwaysCallable run }
 {
-    let mut bytes = [BYTE_MARK; BYTES];
+    let mut bytes = marked_bytes();
     let size = decode(value(b'd', case), &mut bytes);
     run(&bytes[..size])
 }
@@ -57,7 +57,7 @@ pub(crate) fn show_read<F: FnOnce(&[u8], &mut [u32]) -> CAnswer>(
     requires { F.IsAlwaysCallable call }
 {
     on_bytes(case, |bytes| {
-        let mut values = [VALUE_MARK; VALUES];
+        let mut values = marked_values();
         // (Tried by `on_first`, and the proof did not close: that the call may be made is not known in a closure within a closure.)
         let output = &mut values[..room(case).min(VALUES)];
         let answer = call(bytes, output);

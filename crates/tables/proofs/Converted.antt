@@ -1,8 +1,8 @@
 -- A byte and a value convert to the number that each is.
 use Rattle.tables.specs.Claims.{BytesAreNumbers, ValuesAreNumbers}
 
-bytes_are_numbers : BytesAreNumbers
+pub bytes_are_numbers : BytesAreNumbers
 bytes_are_numbers x n e = e
 
-values_are_numbers : ValuesAreNumbers
+pub values_are_numbers : ValuesAreNumbers
 values_are_numbers x n e = e

@@ -18,6 +18,12 @@ use Rattle.tables.proofs.buffers.first.Kinds as first_kinds
 use Rattle.tables.specs.contracts.buffers.on_first.F-FnOnce.{Ghosts as CallGhosts}
 use Rattle.tables.proofs.buffers.on_first.Reads as on_first
 use Rattle.tables.proofs.buffers.on_first.Kinds as on_first_kinds
+use Rattle.tables.proofs.buffers.marked_bytes.Reads as marked_bytes
+use Rattle.tables.proofs.buffers.marked_bytes.Kinds as marked_bytes_kinds
+use Rattle.tables.proofs.buffers.marked_values.Reads as marked_values
+use Rattle.tables.proofs.buffers.marked_values.Kinds as marked_values_kinds
+use Rattle.tables.proofs.buffers.table_room.Reads as table_room
+use Rattle.tables.proofs.buffers.table_room.Kinds as table_room_kinds
 use Rattle.tables.proofs.buffers.same_front.Reads as same_front
 use Rattle.tables.proofs.buffers.same_front.Kinds as same_front_kinds
 use Rattle.tables.proofs.checksum.Reads as checksum
@@ -132,6 +138,24 @@ given_values_asks_nothing κs a = tt
 
 given_values_determined : AnswerDetermined given_values_kinds.ps given_values_kinds.r given_values.Post
 given_values_determined κs a z z' e e' p q = p.0 ∙ sym q.0
+
+table_room_asks_nothing : AsksNothing table_room_kinds.ps table_room.Pre
+table_room_asks_nothing κs a = tt
+
+table_room_determined : AnswerDetermined table_room_kinds.ps table_room_kinds.r table_room.Post
+table_room_determined κs a z z' e e' p q = p.0 ∙ sym q.0
+
+marked_bytes_asks_nothing : AsksNothing marked_bytes_kinds.ps marked_bytes.Pre
+marked_bytes_asks_nothing κs a = tt
+
+marked_bytes_determined : AnswerDetermined marked_bytes_kinds.ps marked_bytes_kinds.r marked_bytes.Post
+marked_bytes_determined κs a z z' e e' p q = p.0 ∙ sym q.0
+
+marked_values_asks_nothing : AsksNothing marked_values_kinds.ps marked_values.Pre
+marked_values_asks_nothing κs a = tt
+
+marked_values_determined : AnswerDetermined marked_values_kinds.ps marked_values_kinds.r marked_values.Post
+marked_values_determined κs a z z' e e' p q = p.0 ∙ sym q.0
 
 -- what borrows nothing outlives every loan of it
 outlives : {l k : List ℕ} → l ≡ [] → (x : ℕ) → Mem x l → Mem x k

@@ -1,3 +1,3 @@
 pub mod Going
-mod Converted
+pub mod Converted
 mod Determined

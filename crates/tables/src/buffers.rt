@@ -1,5 +1,5 @@
-// Marks, which a buffer is full of before a call, and the first so many of what a buffer holds.
-ghost use Rattle.std.specs.Prelude.{◌≡◌, ℕ, min, length, take, drop};
+// Room for a table, buffers that are full of marks before a call, and the first so many of what a buffer holds.
+ghost use Rattle.std.specs.Prelude.{◌≡◌, ℕ, min, length, take, drop, replicate};
 ghost use Rattle.std.specs.Fn.{FnOnceReturnsAtMut};
 ghost use Rattle.std.specs.List.{common_prefix_len};
 ghost use Rattle.tables.specs.Tables.{Converts, sum_from};
@@ -15,6 +15,31 @@ pub const VALUES: usize = 4104;
 pub const BYTE_MARK: u8 = 165;
 
 pub const VALUE_MARK: u32 = 2863311530;
+
+// More bytes than a table has. (The project has no heap: a table is read into memory of a fixed length.)
+pub const ROOM: usize = 262144;
+
+// (The three below say the constants in numbers: no clause holds a constant.)
+pub fn table_room() -> [u8; ROOM]
+    ensures value { result ≡ replicate 262144 0 }
+    ensures len { 262144 ≡ length result }
+{
+    [0; ROOM]
+}
+
+pub fn marked_bytes() -> [u8; BYTES]
+    ensures value { result ≡ replicate 45064 165 }
+    ensures len { 45064 ≡ length result }
+{
+    [BYTE_MARK; BYTES]
+}
+
+pub fn marked_values() -> [u32; VALUES]
+    ensures value { result ≡ replicate 4104 2863311530 }
+    ensures len { 4104 ≡ length result }
+{
+    [VALUE_MARK; VALUES]
+}
 
 // The first `count` items, or all where there are fewer.
 pub fn first<T>(items: &[T], count: usize) -> &[T]

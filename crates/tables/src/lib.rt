@@ -9,6 +9,7 @@ ghost use Rattle.layout.specs.Layout.{table};
 ghost use Rattle.answers.specs.Answers.{over};
 ghost use Rattle.tables.specs.Tables.{RanOn, Converts, sum_from, digit_of, hex_byte, noise_after};
 
+use buffers::table_room;
 use std::io;
 use std::io::Read;
 use streams::read_full;
@@ -17,9 +18,6 @@ use words::{before, behind};
 pub mod buffers;
 pub mod line;
 pub mod words;
-
-// More bytes than a table has. (The project has no heap: a table is read into memory of a fixed length.)
-const ROOM: usize = 262144;
 
 // Runs on each line of a text, until one fails. (No plainer by `split`, which has one line more, an empty one, behind the
 // last byte 10, or by `split_inclusive`, whose pieces end in it.)
@@ -43,7 +41,7 @@ pub fn for_each_line<R: Read, F: FnMut(&[u8]) -> io::Result<()>>(
     requires { F.IsAlwaysCallable run }
     ensures { IfOk result (λ _. (text : List ℕ) × Consumes (R.remaining table.old) (R.remaining table.new) text × RanOn (CalledAt F.FnMut) run text) }
 {
-    let mut room = [0; ROOM];
+    let mut room = table_room();
     let size = read_full(table, &mut room)?;
     for_each_line_of(&room[..size], run)
 }

@@ -2,11 +2,13 @@
 use mathlib.Core.Path.{◌≡◌, refl, sym, ◌∙◌, ap, ap₂}
 use mathlib.Core.Bool.{Bool, true, false, ◌&&◌}
 use mathlib.Core.List.{List, [], ◌∷◌, ◌++◌, append-nil}
-use Prim.Native.Nat.{ℕ, ◌+◌, ◌≤◌}
+use Prim.Native.Nat.{ℕ, suc, ◌+◌, ◌≤◌, ◌<◌}
 use native.Mathlib.Omega.{arith}
-use borrow.Author.Tests.{eqb-true, eq-eqb}
+use borrow.Author.Tests.{eqb-true, eq-eqb, ne_eqb}
 use lib.Dec.{eqb}
 use lib.ListN.{length, take, drop, length-append, drop_of_length-le}
+use lib.Seq.{drop-cons}
+use Rattle.layout.specs.Layout.{at}
 use Rattle.std.proofs.lemmas.Bool.Decides.{nat_tests}
 use Rattle.std.specs.Cmp.Lexicographic.{pointwise}
 use Rattle.layout.proofs.Widths.{and_both}
@@ -27,6 +29,34 @@ unfolding begins
 strips_begins [] bs = refl
 strips_begins (x ∷ t) [] = refl
 strips_begins (x ∷ t) (b ∷ bs) = ap₂ (λ (p q : Bool). p && q) (either_way b x) (strips_begins t bs)
+
+-- byte by byte
+pub begins_short : (t bs : List ℕ) → length bs < length t → begins t bs ≡ false
+unfolding begins
+begins_short [] bs h = absurd (omega arith)
+begins_short (x ∷ t) [] h = refl
+begins_short (x ∷ t) (b ∷ bs) h = go (eqb x b) (begins_short t bs (omega arith))
+  where
+    go : (e : Bool) → begins t bs ≡ false → e && begins t bs ≡ false
+    go true rest = rest
+    go false rest = refl
+
+-- past i bytes that agree, the rest decides
+pub begins_step : (t bs : List ℕ) (i : ℕ) → i < length t → i < length bs → at t i ≡ at bs i → begins (drop i t) (drop i bs) ≡ begins (drop (i + 1) t) (drop (i + 1) bs)
+unfolding begins
+begins_step t bs i a b same =
+    let e : suc i ≡ i + 1 = omega arith in
+    let q = drop-cons t i 0 a ∙ ap (λ (n : ℕ). at t i ∷ drop n t) e in
+    let p = drop-cons bs i 0 b ∙ ap (λ (n : ℕ). at bs i ∷ drop n bs) e in
+    rw (q, p, eq-eqb (at t i) (at bs i) same)
+
+pub begins_stop : (t bs : List ℕ) (i : ℕ) → i < length t → i < length bs → (at t i ≡ at bs i → ⊥) → begins (drop i t) (drop i bs) ≡ false
+unfolding begins
+begins_stop t bs i a b differ = rw (drop-cons t i 0 a, drop-cons bs i 0 b, ne_eqb (at t i) (at bs i) differ)
+
+pub begins_none : (bs : List ℕ) → begins [] bs ≡ true
+unfolding begins
+begins_none bs = refl
 
 -- bytes begin with a text exactly where they are the text and a rest
 pub begins_whole : (t bs : List ℕ) → begins t bs ≡ true → bs ≡ t ++ drop (length t) bs

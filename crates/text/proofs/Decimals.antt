@@ -6,7 +6,7 @@ use native.Mathlib.Nat.{pow-suc, pow-succ', div-div-eq-div-mul, div-lt_iff_lt-mu
 use native.Mathlib.Numerals.{add-one}
 use native.Mathlib.Omega.{arith}
 use native.Mathlib.Decide.{dec_lt}
-use borrow.Author.Tests.{lt-ltb, le-ltb, le-leb}
+use borrow.Author.Tests.{lt-ltb, le-ltb, le-leb, lt-leb}
 use lib.ListN.{length, length-append}
 use Rattle.std.specs.Prelude.{Some}
 use Rattle.text.specs.Text.{digits, places, decimal, fitted, fitted_length, leading, value_from, leading_number}
@@ -156,6 +156,9 @@ number_back n rest h =
 -- a text is put where there is room for it
 pub fitted_all : (t before : List ℕ) → length t ≤ length before → fitted t before ≡ t
 fitted_all t before h = rw (le-leb (length t) (length before) h)
+
+pub fitted_none : (t before : List ℕ) → length before < length t → fitted t before ≡ []
+fitted_none t before h = rw (lt-leb (length t) (length before) h)
 
 pub fitted_length_all : (t before : List ℕ) → length t ≤ length before → fitted_length t before ≡ Some (length t)
 fitted_length_all t before h = rw (le-leb (length t) (length before) h)

@@ -1,4 +1,4 @@
--- How many bytes the lines of a header take at most: the room that their writers ask for.
+-- How many bytes the lines of a header take at most. Room for a number line is asked for where that of `first` is put; the others stand in laws.
 use Rattle.std.specs.Prelude.{ℕ, ◌+◌}
 
 -- a name of five letters and `=`, ten digits and byte 10: the lanes, first, count and bytes lines

@@ -198,7 +198,7 @@ module _ {L : ℕ} {m₀ : Mode} {vs : List ℕ} {m : Mode} {rest : List ℕ} {d
 
   -- the values of the next block, and those behind it
   module _ (some : 0 < length rest) where
-    abbrev part : List ℕ
+    abbrev pub part : List ℕ
     part = take (block_size L) rest
 
     whole : body_of L m₀ vs ≡ (s.so_far ++ block L (entries_of m part)) ++ body_of L (after_all m part) (drop (block_size L) rest)
